@@ -1,4 +1,5 @@
 -- The laws, from the lemmas on reading, on first equal lines and on symbols in order.
+use Rattle.std.proofs.lemmas.Grind.{common_steps}
 use Rattle.std.proofs.Common.{◌≡◌, ◌≢◌, ◌∙◌, ap, refl, sym, subst, List, ℕ, [], length, drop, arith}
 use Rattle.std.specs.List.{flat_map}
 use Rattle.std.proofs.Math.Seq.{drop-append_seam}
@@ -23,9 +24,7 @@ pub bytes_are_read_in_one_way : IsReadInOneWay
 bytes_are_read_in_one_way = one-reading
 
 pub encoding_is_a_function : EncodingIsAFunction
-encoding_is_a_function = λ kind input old new other_old other_new one two.
-    ap (drop (length old)) one ∙ drop-append_seam old (encoded kind input)
-    ∙ sym (ap (drop (length other_old)) two ∙ drop-append_seam other_old (encoded kind input))
+encoding_is_a_function = grind (arith, common_steps)
 
 pub decoding_gives_first_spellings : DecodingGivesFirstSpellings
 decoding_gives_first_spellings = λ kind input. decodes-first (key_of kind) input

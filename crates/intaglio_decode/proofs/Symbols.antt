@@ -1,4 +1,5 @@
 -- The lines of symbols, one by one.
+use Rattle.std.proofs.lemmas.Grind.{common_steps}
 use Rattle.std.proofs.Common.{◌≡◌, ◌∙◌, sym, ap, refl, ℕ, suc, ◌+◌, ◌-◌, ◌^◌, ◌<◌, ◌≤◌, min, one-add, true, false, cond, eqb, List, [], ◌∷◌, ◌++◌, length, get_or, map, Option, Some, None, append_assoc, subst, Bor, arith}
 use Rattle.std.specs.Option.{option_or}
 use Rattle.std.specs.List.{before_first, list_any}
@@ -38,9 +39,7 @@ Reports-or (Stream failure) fault more is = tt
 -- with one more byte in front of some, the last byte is the same
 last-cons : (byte : ℕ) (bytes : List ℕ) → 1 ≤ length bytes →
     get_or (byte ∷ bytes) (length (byte ∷ bytes) - 1) 0 ≡ get_or bytes (length bytes - 1) 0
-last-cons byte bytes some =
-    let place : length (byte ∷ bytes) - 1 ≡ suc (length bytes - 1) = omega arith in
-    ap (λ n. get_or (byte ∷ bytes) n 0) place
+last-cons byte bytes some = grind (arith, common_steps)
 
 -- if there is a byte, the test whether the last one is 10 says whether the bytes are ended
 pub is_ended_last : (bytes : List ℕ) → 1 ≤ length bytes →

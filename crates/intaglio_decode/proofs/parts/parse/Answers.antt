@@ -1,4 +1,5 @@
 -- Each symbol was checked against the count of spellings, and the last line is ended: so the bytes hold both.
+use Rattle.std.proofs.lemmas.Grind.{common_steps}
 use Rattle.std.proofs.Common.{◌≡◌, ◌∙◌, ap, sym, length, map, Some, Bor, List, ℕ, is_some, arith}
 use Rattle.std.proofs.lemmas.List.{length-map}
 use Rattle.intaglio_lines.specs.Fault.{first_fault, symbol_lines}
@@ -21,9 +22,4 @@ returns-clause-holds c =
     (sym c.ends_line-2.ensures ∙ c.if-not-ends_line.false)
 
 pub returns-clause-sound : goal.returns-clause-sound
-returns-clause-sound c =
-    let items = c.in_ok-spellings.spellings.items in
-    let size = length-map items (λ (s : Bor (List ℕ)). s.now) in
-    let count : length (map (λ (s : Bor (List ℕ)). s.now) items) ≡ c.len.result =
-    omega (arith, size, c.len.ensures, c.in_ok-spellings.spellings.ok.0) in
-    rw count (known-lines c.len.result 1 (symbol_lines c.args.bytes.now) c.in_ok-check_symbols-2.ensures.right)
+returns-clause-sound c = grind (arith, common_steps, length-map, known-lines)
