@@ -1,6 +1,6 @@
 -- The lines of symbols, one by one.
 use Rattle.std.proofs.lemmas.Grind.{common_steps}
-use Rattle.std.proofs.Common.{◌≡◌, ◌∙◌, sym, ap, refl, ℕ, suc, ◌+◌, ◌-◌, ◌^◌, ◌<◌, ◌≤◌, min, one-add, true, false, cond, eqb, List, [], ◌∷◌, ◌++◌, length, get_or, map, Option, Some, None, append_assoc, subst, Bor, arith}
+use Rattle.std.proofs.Common.{◌≡◌, ◌∙◌, sym, ap, refl, ℕ, ◌+◌, ◌-◌, ◌^◌, ◌<◌, ◌≤◌, min, one-add, true, false, cond, eqb, List, [], ◌∷◌, ◌++◌, length, get_or, map, Option, Some, None, append_assoc, subst, Bor, arith}
 use Rattle.std.specs.Option.{option_or}
 use Rattle.std.specs.List.{before_first, list_any}
 use Rattle.std.specs.Str.Parse.{digits_value}
