@@ -1,4 +1,5 @@
 -- What stands at the symbols that strings are given, one list after the other.
+use Rattle.std.proofs.lemmas.Grind.{common_steps}
 use Rattle.std.proofs.Common.{◌≡◌, ◌∙◌, ℕ, ◌<◌, List, [], ◌∷◌, ◌++◌, length, map, take, drop, refl, sym, ap, subst, Some, arith, append-nil, Result, Ok, Err, IfOk, OnOk}
 use Rattle.std.specs.List.{flat_map}
 use Rattle.std.specs.Prelude.{slice_get}
@@ -99,9 +100,7 @@ union-over limit i lists over =
     let front = take i lists in
     let back = drop i lists in
     let whole : front ++ back ≡ lists = take-append-drop i lists in
-    let parts : union (front ++ back) ≡ interned_all string_key (union front) (flat_map all back) =
-    ap (interned_all string_key []) (flat_map-append all front back)
-    ∙ interned_all-append string_key [] (flat_map all front) (flat_map all back) in
+    let parts : union (front ++ back) ≡ interned_all string_key (union front) (flat_map all back) = grind (arith, common_steps, flat_map-append, interned_all-append) in
     let longer = interned_all-longer string_key (union front) (flat_map all back) in
     let same : union lists ≡ interned_all string_key (union front) (flat_map all back) =
     ap union (sym whole) ∙ parts in

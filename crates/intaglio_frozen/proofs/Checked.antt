@@ -1,7 +1,7 @@
 -- What is found of strings, batch by batch.
-use Rattle.std.proofs.Common.{◌≡◌, ◌∙◌, ◌⊎◌, inl, inr, ℕ, ◌+◌, ◌-◌, ◌<◌, ◌≤◌, List, ◌++◌, length, map, take, slice_get, Some, length-append, ap, arith}
+use Rattle.std.proofs.Common.{◌≡◌, ◌∙◌, ◌⊎◌, inl, inr, ℕ, ◌+◌, ◌-◌, ◌<◌, ◌≤◌, List, ◌++◌, length, map, slice_get, Some, ap, arith}
 use Rattle.std.proofs.lemmas.Bool.{cases_lt}
-use Rattle.std.proofs.lemmas.List.{get_or-map, length-take-le}
+use Rattle.std.proofs.lemmas.List.{get_or-map}
 use Rattle.std.proofs.lemmas.Option.{slice_get_within, get_or_from_slice_get}
 use Rattle.intaglio_frozen.specs.Layout.{key0, key1, strings}
 use Rattle.intaglio_frozen.specs.LookUp.{hash, hash_under, find, FindsAll}
@@ -19,12 +19,6 @@ found-either bs start n k before after l (inr above) =
 pub found-further : (bs : List ℕ) (start n : ℕ) → AreFoundBelow bs start → AreFoundFrom bs start n →
     AreFoundBelow bs (start + n)
 found-further bs start n before after = λ k l. found-either bs start n k before after l (cases_lt k start)
-
--- a batch has as many hashes as strings
-pub batch-length : (new rest old : List ℕ) (n : ℕ) → length new ≡ length (take n old) → n ≤ length old →
-    length (take n (new ++ rest)) ≡ n
-batch-length new rest old n same within =
-    length-take-le n (new ++ rest) (omega (arith, same, length-take-le n old within, length-append new rest))
 
 -- the hashes of the strings of a table under its keys
 pub hashes-of : (bs hs : List ℕ) → hs ≡ map (hash_under (key0 bs) (key1 bs)) (strings bs) →

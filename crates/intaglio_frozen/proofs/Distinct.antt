@@ -1,4 +1,5 @@
 -- Strings that are interned in order, and are all new, are distinct.
+use Rattle.std.proofs.lemmas.Grind.{common_steps}
 use Rattle.std.proofs.Common.{zero, suc, get_or, ◌≡◌, ◌∙◌, ℕ, ◌+◌, ◌<◌, ◌≤◌, List, [], ◌∷◌, ◌++◌, length, map, take, slice_get, Option, Some, None, MatchOption, Result, Ok, refl, sym, ap, arith}
 use Rattle.std.proofs.lemmas.List.{length-map}
 use Rattle.std.proofs.lemmas.Grind.{take_at_read}
@@ -27,10 +28,7 @@ by-found (Some i) old new w s below step past =
 pub added : (old new : State (List ℕ)) (w : List ℕ) (s : ℕ) →
     InternsForm key (λ v. v) old (key w) w (Ok s) new → length old.contents ≤ s →
     new.contents ≡ old.contents ++ w ∷ []
-added old new w s step past =
-    by-found (first key old.contents (key w)) old new w s
-    (λ i e. omega (arith, some-below (map key old.contents) (key w) i e, length-map old.contents key)) step
-    past
+added old new w s step past = grind (arith, common_steps, by-found, key, some-below, length-map)
 
 -- the first i + 1 strings are the first i and the string at i
 pub take-next : (ws : List (List ℕ)) (i : ℕ) (w : List ℕ) → slice_get ws i ≡ Some w →

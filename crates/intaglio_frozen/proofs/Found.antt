@@ -1,7 +1,6 @@
 -- What look-ups find, where each text is found at its position.
+use Rattle.std.proofs.lemmas.Grind.{common_steps}
 use Rattle.std.proofs.Common.{◌≡◌, ℕ, zero, suc, ◌+◌, ◌*◌, ◌%◌, ◌<◌, ◌==◌, Bool, true, false, cond, List, [], ◌∷◌, length, get_or, slice_get, Option, Some, None, map, refl, sym, ap, ◌∙◌, arith}
-use Rattle.std.proofs.Common.{eq-eqb}
-use Rattle.std.proofs.lemmas.Bool.{ne_eqb}
 use Rattle.std.specs.Str.{bytes_eq}
 use Rattle.std.specs.Cmp.Lexicographic.{bytes_decides}
 use Rattle.intaglio_content.specs.Key.{Key}
@@ -104,17 +103,13 @@ find-by bs w h p eh ep = rw (ep, eh) refl
 -- at a place that has another tag, nothing is found
 pub at-other : (bs w : List ℕ) (p tag t : ℕ) → t ≡ tags_at bs → (get_or bs (t + p) 0 ≡ tag → ⊥) →
     find_at bs p tag w ≡ None
-at-other bs w p tag t et n =
-    let m : get_or bs (tags_at bs + p) 0 ≡ tag → ⊥ = rw et at n in
-    rw (ne_eqb (get_or bs (tags_at bs + p) 0) tag m) refl
+at-other bs w p tag t et n = grind (arith, common_steps)
 
 -- at a place that has the tag, its symbol is found if its string is the sought one, and else nothing
 pub at-same : (bs w : List ℕ) (p tag t s : ℕ) → t ≡ tags_at bs → get_or bs (t + p) 0 ≡ tag →
     s ≡ u32_at bs (128 + 4 * p) →
     find_at bs p tag w ≡ if_same (slice_get (strings bs) s) s w
-at-same bs w p tag t s et e es =
-    let m : get_or bs (tags_at bs + p) 0 ≡ tag = rw et at e in
-    rw (eq-eqb (get_or bs (tags_at bs + p) 0) tag m, ← es) refl
+at-same bs w p tag t s et e es = grind (arith, common_steps)
 
 -- what a test of the only symbol finds
 pub same-string : (s : ℕ) (o : Option (List ℕ)) (t w : List ℕ) (b : Bool) → o ≡ Some t → bytes_eq t w ≡ b →

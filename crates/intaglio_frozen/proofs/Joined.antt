@@ -1,11 +1,12 @@
 -- Maps of shards, as one map.
-use Rattle.std.proofs.Common.{◌≡◌, ◌∙◌, ℕ, ◌+◌, ◌<◌, List, [], ◌∷◌, ◌++◌, length, map, append-nil, append_assoc, length-append, Some, refl, sym, ap, arith}
-use Rattle.std.specs.Prelude.{slice_get, All}
+use Rattle.std.proofs.lemmas.Grind.{common_steps}
+use Rattle.std.proofs.Common.{◌≡◌, ◌∙◌, ℕ, ◌+◌, ◌<◌, List, [], ◌∷◌, ◌++◌, length, map, append-nil, append_assoc, Some, refl, sym, ap, arith}
+use Rattle.std.specs.Prelude.{slice_get}
 use Rattle.std.proofs.lemmas.List.{map-append}
 use Rattle.std.proofs.lemmas.Option.{slice_get_within}
 use Rattle.intaglio_frozen.specs.Merging.{decode, IsMap}
 use Rattle.intaglio_frozen.specs.Laws.{ShardMapsJoin}
-use Rattle.intaglio_frozen.specs.Shards.{AreWithin, joined, joined_map, sum_of, AreShardMaps}
+use Rattle.intaglio_frozen.specs.Shards.{joined, joined_map, sum_of, AreShardMaps}
 use Rattle.intaglio_frozen.proofs.Sharded.{at-back, at-front}
 
 -- the numbers of a map, counted on from the end of other strings, lead to the same strings behind these
@@ -41,10 +42,7 @@ behind-front front (old ∷ olds) (new ∷ news) (numbers ∷ maps) are =
     let rest : decode ((front ++ new) ++ joined news)
     (joined_map (length (front ++ new)) (map length news) maps) ≡ map Some (joined olds) =
     behind-front (front ++ new) olds news maps are.1 in
-    let there : decode strings others ≡ map Some (joined olds) =
-    ap (λ t. decode t others) (sym (append_assoc front new (joined news)))
-    ∙ ap (λ n. decode ((front ++ new) ++ joined news) (joined_map n (map length news) maps))
-    (sym (length-append front new)) ∙ rest in
+    let there : decode strings others ≡ map Some (joined olds) = grind (arith, common_steps) in
     cut ∙ ap (λ t. t ++ decode strings others) here ∙ ap (λ t. map Some old ++ t) there
     ∙ sym (map-append Some old (joined olds))
 
@@ -66,16 +64,6 @@ map-push n (c ∷ counts) (m ∷ maps) count numbers same =
     ∙ ap (λ s. map (λ k. n + k) m ++ (joined_map (n + c) counts maps ++ map (λ k. s + k) numbers)) sum-is
     ∙ sym (append_assoc (map (λ k. n + k) m) (joined_map (n + c) counts maps)
     (map (λ k. n + sum_of (c ∷ counts) + k) numbers))
-
--- if the numbers of maps are below their counts, so they are with one more such map and its count behind them
-pub within-push : (counts : List ℕ) (maps : List (List ℕ)) (count : ℕ) (numbers : List ℕ) →
-    length counts ≡ length maps → AreWithin counts maps → All (λ k. k < count) numbers
-    → AreWithin (counts ++ count ∷ []) (maps ++ numbers ∷ [])
-within-push [] [] count numbers same are all = (all, tt)
-within-push [] (m ∷ maps) count numbers same are all = absurd (omega (arith, same))
-within-push (c ∷ counts) [] count numbers same are all = absurd (omega (arith, same))
-within-push (c ∷ counts) (m ∷ maps) count numbers same are all =
-    (are.0, within-push counts maps count numbers (omega (arith, same)) are.1 all)
 
 -- the maps of shards, as one map, lead from all strings of the shards to all those of the others
 pub maps-join : ShardMapsJoin

@@ -1,9 +1,9 @@
 -- The check that a group of strings has no places, step by step.
-use Rattle.std.proofs.Common.{◌≡◌, ℕ, ◌+◌, ◌<◌, ◌==◌, inl, inr, Bool, List, length, get_or, set, take, sym, subst, ap, ◌∙◌, arith, eq-eqb}
+use Rattle.std.proofs.lemmas.Grind.{common_steps}
+use Rattle.std.proofs.Common.{◌≡◌, ℕ, ◌+◌, ◌<◌, ◌==◌, inl, inr, Bool, List, length, get_or, set, take, sym, subst, ap, ◌∙◌, arith}
 use Rattle.std.specs.List.{count_by}
-use Rattle.std.proofs.lemmas.Bool.{cases_eq, ne_eqb}
+use Rattle.std.proofs.lemmas.Bool.{cases_eq}
 use Rattle.std.proofs.lemmas.List.{get_or-set_same, get_or-set_other}
-use Rattle.std.proofs.lemmas.List.Sums.{count_by_more_yes, count_by_more_no}
 use Rattle.intaglio_frozen.specs.Layout.{groups_for}
 use Rattle.intaglio_frozen.specs.LookUp.{scaled}
 use Rattle.intaglio_frozen.specs.Stuck.{group_at, place_under, IsBeforeAt, IsEarlierAt, HasNoPlace}
@@ -18,17 +18,7 @@ pub counted-more : (hs sizes : List ℕ) (i at x g : ℕ) → i < length hs → 
     at < length sizes → x ≡ get_or sizes at 0 + 1 →
     get_or sizes g 0 ≡ count_by (is_in hs g) (take i hs) →
     get_or (set sizes at x) g 0 ≡ count_by (is_in hs g) (take (i + 1) hs)
-counted-more hs sizes i at x g l is within more so_far = elim (cases_eq g at) [
-  | inl same ↦
-      (let read : get_or (set sizes at x) g 0 ≡ x =
-      ap (λ k. get_or (set sizes at x) k 0) same ∙ get_or-set_same sizes at x 0 within in
-      let here = count_by_more_yes (is_in hs g) hs i 0 l (eq-eqb (group_at hs i) g (sym (same ∙ is))) in
-      let before : get_or sizes at 0 ≡ get_or sizes g 0 = ap (λ k. get_or sizes k 0) (sym same) in
-      omega (arith, read, here, before, more, so_far))
-  | inr other ↦
-      get_or-set_other sizes at g x 0 other ∙ so_far
-      ∙ sym (count_by_more_no (is_in hs g) hs i 0 l (ne_eqb (group_at hs i) g (λ e. other (sym (is ∙ e)))))
-]
+counted-more hs sizes i at x g l is within more so_far = grind (arith, common_steps)
 
 module _ (hs : List ℕ) (pilots : ℕ → ℕ) (g : ℕ) where
   -- one more place of a group before is marked

@@ -2,11 +2,11 @@
 use Rattle.std.proofs.Common.{◌≡◌, ◌∙◌, ℕ, zero, suc, ◌+◌, ◌<◌, ◌≤◌, ◌==◌, Bool, true, false, cond, List, [], ◌∷◌, ◌++◌, get_or, length, map, take, drop, Some, refl, sym, ap, arith, append-nil, append_assoc, length-append, ◌⊎◌, inl, inr}
 use Rattle.std.specs.Prelude.{slice_get}
 use Rattle.std.proofs.Math.ListN.{set}
-use Rattle.std.proofs.Math.Seq.{get_or-append_seam, take-length}
+use Rattle.std.proofs.Math.Seq.{take-length}
 use Rattle.std.proofs.lemmas.Bool.{cases_order}
 use Rattle.std.proofs.lemmas.Bool.Decides.{eqb_tells}
 use Rattle.std.proofs.lemmas.Grind.{flat_map-append}
-use Rattle.std.proofs.lemmas.List.{get_or-set_other, get_or-set_same, get_or_append_left, take-append-drop}
+use Rattle.std.proofs.lemmas.List.{get_or-set_other, get_or-set_same, take-append-drop}
 use Rattle.std.proofs.lemmas.List.Elements.{filter-append}
 use Rattle.std.proofs.lemmas.Option.{slice_get_within}
 use Rattle.intaglio_frozen.specs.Merging.{IsMap}
@@ -234,21 +234,6 @@ module _ (count : ℕ) (strings : List (List ℕ)) (shards : List ℕ) (are : sh
         length-append (shard count (take i strings) number) (shard count (drop i strings) number),
         length-append (joined (first_shards count strings number)) (shard count (take i strings) number),
       )
-
--- one number more that is below
-pub below-push : (count : ℕ) (xs : List ℕ) (x : ℕ) → ((k : ℕ) → k < length xs → get_or xs k 0 < count) →
-    x < count → (k : ℕ) → k < length (xs ++ x ∷ []) → get_or (xs ++ x ∷ []) k 0 < count
-below-push count xs x before next k within =
-    elim (cases_order k (length xs)) as (λ _. get_or (xs ++ x ∷ []) k 0 < count) [
-      | inl same ↦
-          let last : get_or (xs ++ x ∷ []) k 0 ≡ x =
-          ap (λ n. get_or (xs ++ x ∷ []) n 0) same ∙ get_or-append_seam xs x [] 0 in
-          omega (arith, last, next)
-      | inr unequal ↦ elim unequal as (λ _. get_or (xs ++ x ∷ []) k 0 < count) [
-        | inl below ↦ omega (arith, get_or_append_left xs (x ∷ []) 0 k below, before k below)
-        | inr above ↦ absurd (omega (arith, above, within, length-append xs (x ∷ [])))
-      ]
-    ]
 
 -- numbers at which the strings stand are a map
 pub map-from-places : (strings new : List (List ℕ)) (numbers : List ℕ) → length numbers ≡ length strings

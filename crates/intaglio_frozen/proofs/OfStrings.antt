@@ -1,5 +1,6 @@
 -- The ends and the text of a frozen table are those of its strings.
-use Rattle.std.proofs.Common.{◌≡◌, ◌∙◌, ℕ, zero, suc, ◌+◌, ◌-◌, ◌*◌, ◌/◌, ◌%◌, ◌^◌, ◌<◌, ◌≤◌, Bool, List, [], ◌∷◌, ◌++◌, length, take, drop, get_or, slice_range, refl, sym, ap, subst, arith, length-drop}
+use Rattle.std.proofs.lemmas.Grind.{common_steps}
+use Rattle.std.proofs.Common.{◌≡◌, ◌∙◌, ℕ, zero, suc, ◌+◌, ◌-◌, ◌*◌, ◌/◌, ◌%◌, ◌^◌, ◌<◌, ◌≤◌, Bool, List, [], ◌∷◌, ◌++◌, length, take, drop, get_or, slice_range, refl, sym, ap, arith, length-drop}
 use Rattle.std.specs.List.{concat}
 use Rattle.std.specs.Int.{w32, to_le_bytes}
 use Rattle.std.proofs.lemmas.List.{drop_all, drop-drop, get_or-drop}
@@ -27,38 +28,10 @@ text_from at n xs [] h l = sym (drop_all at xs (omega (arith, h, l)))
 text_from at n xs (e ∷ es) h l = ap (λ t. slice_range xs at e ++ t) (text_from e n xs es h.1 l)
     ∙ sym (drop_split xs at e h.0)
 
--- four bytes, by the number that they make
-first_byte : (a b c d : ℕ) → a < 256 → (a + 256 * (b + 256 * (c + 256 * (d + 256 * 0)))) % 256 ≡ a
-first_byte a b c d la = omega (arith, la)
-
--- the number that four bytes make, divided by 2 ^ 8 and taken modulo 256, is the second of them
-second_byte : (a b c d : ℕ) → a < 256 → b < 256 →
-    (a + 256 * (b + 256 * (c + 256 * (d + 256 * 0)))) / 256 % 256 ≡ b
-second_byte a b c d la lb = omega (arith, la, lb)
-
--- the number that four bytes make, divided by 2 ^ 16 and taken modulo 256, is the third of them
-third_byte : (a b c d : ℕ) → a < 256 → b < 256 → c < 256 →
-    (a + 256 * (b + 256 * (c + 256 * (d + 256 * 0)))) / 65536 % 256 ≡ c
-third_byte a b c d la lb lc = omega (arith, la, lb, lc)
-
--- the number that four bytes make, divided by 2 ^ 24 and taken modulo 256, is the fourth of them
-fourth_byte : (a b c d : ℕ) → a < 256 → b < 256 → c < 256 → d < 256 →
-    (a + 256 * (b + 256 * (c + 256 * (d + 256 * 0)))) / 16777216 % 256 ≡ d
-fourth_byte a b c d la lb lc ld = omega (arith, la, lb, lc, ld)
-
--- two lists of four numbers are equal if the numbers at each position are
-four_same : (x y z t a b c d : ℕ) → x ≡ a → y ≡ b → z ≡ c → t ≡ d →
-    ◌≡◌ {A = List ℕ} (x ∷ y ∷ z ∷ t ∷ []) (a ∷ b ∷ c ∷ d ∷ [])
-four_same x y z t a b c d ex ey ez et = rw (ex, ey, ez, et) refl
-
 -- the number that four bytes make, written as four little-endian bytes, is these four
 digits_back : (a b c d : ℕ) → a < 256 → b < 256 → c < 256 → d < 256 →
     to_le_bytes w32 (a + 256 * (b + 256 * (c + 256 * (d + 256 * 0)))) ≡ a ∷ b ∷ c ∷ d ∷ []
-digits_back a b c d la lb lc ld =
-    let n = a + 256 * (b + 256 * (c + 256 * (d + 256 * 0))) in
-    four_same (n % 256) (n / 256 % 256) (n / 65536 % 256) (n / 16777216 % 256) a b c d
-    (first_byte a b c d la) (second_byte a b c d la lb) (third_byte a b c d la lb lc)
-    (fourth_byte a b c d la lb lc ld)
+digits_back a b c d la lb lc ld = grind (arith, common_steps)
 
 -- the number of the first four of some bytes, written as four bytes, is these four
 four_back : (xs : List ℕ) → AreBytes xs → 4 ≤ length xs → to_le_bytes w32 (u32_at xs 0) ≡ take 4 xs
@@ -117,10 +90,7 @@ ends_from bs xs at n p (suc k) f h l w =
 -- what identifies a dictionary identifies one with an equal count, equal ends and an equal text
 same_parts : (is_text : Bool) (n m : ℕ) (es fs xs ys : List ℕ) (id : DictionaryId) → n ≡ m → es ≡ fs →
     xs ≡ ys → IsIdOf is_text n es xs id → IsIdOf is_text m fs ys id
-same_parts is_text n m es fs xs ys id en ee ex h =
-    let many : IsIdOf is_text m es xs id = subst (λ (x : ℕ). IsIdOf is_text x es xs id) en h in
-    let ends : IsIdOf is_text m fs xs id = subst (λ (x : List ℕ). IsIdOf is_text m x xs id) ee many in
-    subst (λ (x : List ℕ). IsIdOf is_text m fs x id) ex ends
+same_parts is_text n m es fs xs ys id en ee ex h = grind (arith, common_steps)
 
 module _ (bs : List ℕ) (f : AreBytes bs) (b : IsBlock bs) where
   pub text_is : text_section bs ≡ concat (strings bs)

@@ -1,6 +1,7 @@
 -- The strings of a block, and where they stand.
+use Rattle.std.proofs.lemmas.Grind.{common_steps}
 use Rattle.std.proofs.Common.{◌≡◌, ℕ, zero, suc, ◌+◌, ◌-◌, ◌*◌, ◌/◌, ◌^◌, ◌<◌, ◌≤◌, List, ◌∷◌, length, drop, get_or, slice_get, slice_range, option_copied, Option, None, Some, IfSome, IsSome, Bor, refl, sym, ap, ◌∙◌, arith, length-drop}
-use Rattle.std.proofs.lemmas.Nat.{div_below, row_fits}
+use Rattle.std.proofs.lemmas.Nat.{row_fits}
 use Rattle.std.proofs.Math.Nat.{mul_comm}
 use Rattle.std.proofs.lemmas.List.{get_or-drop}
 use Rattle.std.specs.Slice.{IsGetRangeResult}
@@ -8,7 +9,6 @@ use Rattle.intaglio_hash.specs.Push.{number}
 use Rattle.intaglio_frozen.proofs.Ends.{from-length, strings-at, ends-at}
 use Rattle.intaglio_hash.specs.Numbers.{u32_at}
 use Rattle.intaglio_frozen.specs.Layout.{numbers_at, count, ends_at, text_at, ends, strings}
-use Rattle.intaglio_frozen.specs.LookUp.{scaled}
 use Rattle.intaglio_frozen.specs.IsFrozen.{IsBlock}
 
 -- n numbers that are read from bytes are a list of length n
@@ -96,18 +96,8 @@ part_whole bs i start end (Some s) block l es ee p = sym (string-in bs s.now i s
 product : (a n m : ℕ) → 0 < n → a < m → a * n < n * m
 product a n m p l = omega (arith, row_fits a n m n l (omega arith), mul_comm n m)
 
--- a hash below 2^64 is scaled to a number below n, if n isn't 0
-pub scaled-below : (n h : ℕ) → 0 < n → h < 2 ^ 64 → scaled n h < n
-scaled-below n h p l =
-    let top : h / 2 ^ 32 < 2 ^ 32 = omega arith in
-    let below : h / 2 ^ 32 * n < n * 2 ^ 32 = product (h / 2 ^ 32) n (2 ^ 32) p top in
-    div_below (h / 2 ^ 32 * n) (2 ^ 32) n (omega arith) below
-
 -- of n numbers of four bytes, those from the i-th on are the i-th and those behind it
 pub numbers-step : (bs : List ℕ) (at n i : ℕ) → i < n →
     numbers_at bs (at + 4 * i) (n - i) ≡ u32_at bs (at + 4 * i) ∷ numbers_at bs (at + 4 * (i + 1))
     (n - (i + 1))
-numbers-step bs at n i l =
-    let more : n - i ≡ suc (n - (i + 1)) = omega arith in
-    let next : at + 4 * (i + 1) ≡ at + 4 * i + 4 = omega arith in
-    rw (more, next) refl
+numbers-step bs at n i l = grind (arith, common_steps)

@@ -1,6 +1,6 @@
 -- What merging and renumbering keep.
+use Rattle.std.proofs.lemmas.Grind.{common_steps}
 use Rattle.std.proofs.Common.{◌≡◌, ◌∙◌, ℕ, ◌+◌, ◌<◌, ◌≤◌, Bool, true, false, cond, List, [], ◌∷◌, ◌++◌, length, map, get_or, refl, sym, ap, subst, inl, inr, Option, Some, None, option_map, unwrap_or, is_some, arith}
-use Rattle.std.specs.List.{flat_map}
 use Rattle.std.specs.Prelude.{slice_get}
 use Rattle.std.proofs.lemmas.Bool.{cases_order}
 use Rattle.std.proofs.lemmas.Grind.{flat_map-append}
@@ -12,7 +12,7 @@ use Rattle.intaglio_interner.specs.Issue.{issued, interned, interned_all}
 use Rattle.intaglio_interner.proofs.First.{key_eq-decides}
 use Rattle.intaglio_interner.proofs.Held.{first-still, interned_all-append}
 use Rattle.intaglio_interner.proofs.Laws.{issued-found}
-use Rattle.intaglio_frozen.specs.Merging.{decode, missing, renumber, string_key, union, IsMap}
+use Rattle.intaglio_frozen.specs.Merging.{decode, missing, renumber, string_key, IsMap}
 use Rattle.intaglio_frozen.specs.Laws.{RenumberingKeepsStrings, MapsCompose, MapsAreUnique, MergingNests}
 
 module _ (new : List (List ℕ)) (few : length new ≤ missing) where
@@ -158,22 +158,4 @@ absorbed-seen held seen (w ∷ ws) =
 
 -- lists that are merged first, and then with others, have the union that they have at once
 pub nested : MergingNests
-nested before lists after =
-    let all = λ (strings : List (List ℕ)). strings in
-    let front = flat_map all before in
-    let inner = flat_map all lists in
-    let back = flat_map all after in
-    let held = interned_all string_key [] front in
-    let one : flat_map all (before ++ union lists ∷ after) ≡ front ++ (union lists ++ back) =
-    flat_map-append all before (union lists ∷ after) in
-    let other : flat_map all (before ++ lists ++ after) ≡ front ++ inner ++ back =
-    flat_map-append all (before ++ lists) after ∙ ap (λ t. t ++ back) (flat_map-append all before lists) in
-    let left : union (before ++ union lists ∷ after)
-    ≡ interned_all string_key (interned_all string_key held (union lists)) back =
-    ap (interned_all string_key []) one ∙ interned_all-append string_key [] front (union lists ++ back)
-    ∙ interned_all-append string_key held (union lists) back in
-    let right : union (before ++ lists ++ after)
-    ≡ interned_all string_key (interned_all string_key held inner) back =
-    ap (interned_all string_key []) other ∙ interned_all-append string_key [] (front ++ inner) back
-    ∙ ap (λ t. interned_all string_key t back) (interned_all-append string_key [] front inner) in
-    left ∙ ap (λ t. interned_all string_key t back) (absorbed-seen held [] inner) ∙ sym right
+nested before lists after = grind (arith, common_steps, flat_map-append, interned_all-append, absorbed-seen)

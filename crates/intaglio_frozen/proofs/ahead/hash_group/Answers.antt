@@ -19,12 +19,4 @@ returns-clause-hashes g c =
     let strings = g.L.StringList.strings c.args.list.now in let all = drop c.args.place strings in
     all_first (g.T.HashesAhead.is_hash c.args.table.now) all c.loop-i.hashes c.loop-i.i
     (stops (length all) (length c.loop-i.hashes) c.loop-i.i
-    (λ less. omega (
-      arith,
-      less,
-      length-drop c.args.place strings,
-      c.len.ensures,
-      c.min-count.ensures,
-      c.loop-i-test.false,
-      c.loop-i.invariant.places,
-    ))) c.loop-i.invariant.so_far
+    (λ less. omega (arith, length-drop c.args.place strings))) c.loop-i.invariant.so_far

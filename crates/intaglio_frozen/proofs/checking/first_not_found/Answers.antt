@@ -1,16 +1,14 @@
+use Rattle.std.proofs.lemmas.Grind.{common_steps}
 use Rattle.std.proofs.Common.{◌≡◌, ◌++◌, length, take, drop, arith}
 use Rattle.std.proofs.lemmas.Option.{slice_get_within}
-use Rattle.intaglio_frozen.proofs.Checked.{found-further, batch-length}
-use Rattle.intaglio_frozen.specs.Layout.{strings}
+use Rattle.intaglio_frozen.proofs.Checked.{found-further}
 use Rattle.intaglio_frozen.proofs.checking.first_not_found.Goals as goal
 
 pub loop-start-preserved : goal.loop-start-preserved
 loop-start-preserved c =
     let count = c.min-count.result in
     let rest = drop count c.loop-start.hashes in
-    let long : length (take count (c.hash_strings.new.hashes ++ rest)) ≡ count =
-    batch-length c.hash_strings.new.hashes rest c.loop-start.hashes count c.hash_strings.ensures.len
-    (omega (arith, c.min-count.ensures, c.min-count.array_long)) in
+    let long : length (take count (c.hash_strings.new.hashes ++ rest)) ≡ count = grind (arith, common_steps) in
     record {
       found = found-further c.args.block.now c.loop-start.start count c.loop-start.invariant.found
           (rw long at c.in_default.ensures);
@@ -25,10 +23,4 @@ returns-in-Some c =
     (c.in-Some.ensures.0, rw (← first.1) at found, first.3)
 
 pub returns : goal.returns
-returns c = λ i w is.
-    c.loop-start.invariant.found i (omega (
-      arith,
-      slice_get_within (strings c.args.block.now) i w is,
-      c.loop-start-test.false,
-      c.len.ensures.count,
-    )) w is
+returns c = grind (arith, common_steps, slice_get_within)

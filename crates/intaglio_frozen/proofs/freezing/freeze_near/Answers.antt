@@ -1,5 +1,5 @@
-use Rattle.std.proofs.Common.{inl, inr, sym, subst, arith}
-use Rattle.std.proofs.lemmas.Bool.{cases_eq}
+use Rattle.std.proofs.lemmas.Grind.{common_steps}
+use Rattle.std.proofs.Common.{arith}
 use Rattle.intaglio_frozen.specs.Freezing.{LacksPlaces}
 use Rattle.intaglio_frozen.proofs.freezing.freeze_near.Goals as goal
 
@@ -9,10 +9,7 @@ loop-attempt-preserved g c =
     let lack : LacksPlaces ws c.args.key0 c.args.key1 c.loop-attempt.attempt =
     c.in_ok-bytes.ensures.none c.in_default.is in
     record {
-      lack = λ n l. elim (cases_eq n c.loop-attempt.attempt) [
-        | inl e ↦ subst (λ m. LacksPlaces ws c.args.key0 c.args.key1 m) (sym e) lack
-        | inr d ↦ c.loop-attempt.invariant.lack n (omega (arith, l, d))
-      ];
+      lack = grind (arith, common_steps);
       distinct = λ _. c.in_ok-bytes.ensures.distinct c.in_default.is;
     }
 

@@ -1,3 +1,4 @@
+use Rattle.std.proofs.lemmas.Grind.{common_steps}
 use Rattle.std.proofs.Common.{◌≡◌, ◌∙◌, ◌+◌, ◌^◌, ◌<◌, ◌++◌, [], ◌∷◌, ap, length, map, refl, subst, sym, take, rules, arith}
 use Rattle.std.proofs.lemmas.Grind.{take_at_read}
 use Rattle.std.proofs.lemmas.List.{map-append, map-id, take-map}
@@ -19,32 +20,20 @@ loop-i-preserved g c =
     let old = c.loop-i.table.state.contents in
     let new = c.absorb.new.table.state.contents in
     let symbols = c.in_ok-symbols.symbols.items in
-    let next : map strings (take (i + 1) lists) ≡ front ++ ws ∷ [] =
-    ap (map strings) ((take_at_read lists i list (omega arith)).1
-    ∙ ap (λ t. take i lists ++ t ∷ []) (sym c.index-lists-i.is))
-    ∙ map-append strings (take i lists) (list ∷ []) in
+    let next : map strings (take (i + 1) lists) ≡ front ++ ws ∷ [] = grind (arith, common_steps) in
     let held : map (λ w. w) new ≡ interned_all string_key (map (λ w. w) old) ws =
     c.in_ok-symbols.ensures.held in
-    let after : new ≡ union (front ++ ws ∷ []) =
-    sym (map-id new) ∙ held ∙ ap (λ t. interned_all string_key t ws) (map-id old ∙ c.loop-i.invariant.union)
-    ∙ sym (union-next front ws) in
+    let after : new ≡ union (front ++ ws ∷ []) = grind (arith, common_steps, map-id, union-next) in
     let same : IsMap ws (map (λ w. w) new) symbols = c.in_ok-symbols.ensures.same (λ w. refl) in
     let is : IsMap ws (union (front ++ ws ∷ [])) symbols =
     subst (λ t. IsMap ws t symbols) (map-id new ∙ after) same in
-    let before : AreMaps front (union front) (map (λ m. m.items) c.loop-i.maps.items) =
-    subst (λ t. AreMaps front t (map (λ m. m.items) c.loop-i.maps.items)) c.loop-i.invariant.union
-    c.loop-i.invariant.maps in
+    let before : AreMaps front (union front) (map (λ m. m.items) c.loop-i.maps.items) = grind (arith, common_steps) in
     let items : c.push_reserved.new.self.items ≡ c.loop-i.maps.items ++ c.in_ok-symbols.symbols ∷ [] =
     search rules in
     let maps = maps-next front ws (map (λ m. m.items) c.loop-i.maps.items) symbols before is in
     record {
       union = after ∙ ap union (sym next);
-      maps = rw (
-        items,
-        next,
-        after,
-        map-append (λ m. m.items) c.loop-i.maps.items (c.in_ok-symbols.symbols ∷ []),
-      ) maps;
+      maps = grind (arith, common_steps);
       limit = c.absorb.ensures.table.limit ∙ c.loop-i.invariant.limit;
       hash = c.absorb.ensures.table.same_hash ∙ c.loop-i.invariant.hash;
       count = omega (arith, c.push_reserved.ensures.len, c.loop-i.invariant.count);
@@ -61,14 +50,8 @@ returns-in_err-symbols-clause-overflow g c =
     let ws = strings list in
     let old = c.loop-i.table.state.contents in
     let e = c.in_err-symbols.field-0.0 in
-    let next : take (i + 1) (map strings lists) ≡ front ++ ws ∷ [] =
-    take-map strings (i + 1) lists
-    ∙ ap (map strings) ((take_at_read lists i list (omega arith)).1
-    ∙ ap (λ t. take i lists ++ t ∷ []) (sym c.index-lists-i.is))
-    ∙ map-append strings (take i lists) (list ∷ []) in
-    let held : interned_all string_key (map (λ w. w) old) ws ≡ union (take (i + 1) (map strings lists)) =
-    ap (λ t. interned_all string_key t ws) (map-id old ∙ c.loop-i.invariant.union) ∙ sym (union-next front ws)
-    ∙ ap union (sym next) in
+    let next : take (i + 1) (map strings lists) ≡ front ++ ws ∷ [] = grind (arith, common_steps, take-map, take_at_read, map-append) in
+    let held : interned_all string_key (map (λ w. w) old) ws ≡ union (take (i + 1) (map strings lists)) = grind (arith, common_steps, map-id, union-next) in
     let full : IfOverflow e
     (c.loop-i.table.state.limit < length (interned_all string_key (map (λ w. w) old) ws)) =
     c.in_err-symbols.ensures.overflow in

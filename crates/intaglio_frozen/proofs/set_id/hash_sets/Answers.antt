@@ -1,6 +1,7 @@
+use Rattle.std.proofs.lemmas.Grind.{common_steps}
 use Rattle.std.proofs.Common.{◌∙◌, ◌++◌, length, ap, arith}
 use Rattle.std.specs.List.{flat_map}
-use Rattle.std.specs.Hash.DefaultHasher.{finish, with_keys, write}
+use Rattle.std.specs.Hash.DefaultHasher.{with_keys, write}
 use Rattle.intaglio_frozen.specs.SetId.{number_bytes, set_bytes}
 use Rattle.intaglio_frozen.proofs.Hashed.{last-item, next-item, written-behind}
 use Rattle.intaglio_frozen.proofs.set_id.hash_sets.Goals as goal
@@ -20,6 +21,4 @@ loop-set-preserved c =
     c.write_two-in-loop-set.ensures ∙ c.loop-set.invariant
 
 pub returns : goal.returns
-returns c =
-    c.finish.ensures ∙ ap finish (last-item set_bytes c.loop-set.hasher c.loop-set.set-index c.args.sets.now
-    (omega (arith, c.loop-set-test.false)) ∙ c.loop-set.invariant)
+returns c = grind (arith, common_steps, last-item)

@@ -1,6 +1,7 @@
+use Rattle.std.proofs.lemmas.Grind.{common_steps}
 use Rattle.std.proofs.Common.{◌∙◌, ◌++◌, length, get_or, ap, false, arith}
 use Rattle.std.specs.List.{flat_map}
-use Rattle.std.specs.Hash.DefaultHasher.{finish, with_keys, write}
+use Rattle.std.specs.Hash.DefaultHasher.{with_keys, write}
 use Rattle.intaglio_frozen.specs.declared.id.DictionaryId.{DictionaryId}
 use Rattle.intaglio_frozen.specs.SetId.{first_kind, number_bytes, shard_bytes}
 use Rattle.intaglio_frozen.proofs.Hashed.{last-item, next-item, written-behind}
@@ -29,6 +30,4 @@ loop-id-preserved c =
     (omega (arith, c.loop-id-test.true)) written ∙ c.loop-id.invariant
 
 pub returns : goal.returns
-returns c =
-    c.finish.ensures ∙ ap finish (last-item shard_bytes c.loop-id.hasher c.loop-id.id-index c.args.ids.now
-    (omega (arith, c.loop-id-test.false)) ∙ c.loop-id.invariant)
+returns c = grind (arith, common_steps, last-item)

@@ -1,8 +1,9 @@
-use Rattle.std.proofs.Common.{◌≡◌, ◌∙◌, ◌<◌, [], ◌∷◌, ◌+◌, ap, append-nil, arith, get_or, length, length-append, refl, subst, sym}
+use Rattle.std.proofs.lemmas.Grind.{common_steps}
+use Rattle.std.proofs.Common.{◌≡◌, ◌∙◌, ◌<◌, [], ◌∷◌, ◌+◌, ap, arith, get_or, length, length-append, subst, sym}
 use Rattle.std.proofs.lemmas.List.{length-map, length-set}
 use Rattle.std.proofs.lemmas.Option.{slice_get-get_or}
-use Rattle.intaglio_frozen.specs.Shards.{first_shards, joined, shard_of}
-use Rattle.intaglio_frozen.proofs.Numbered.{HavePlaces, so_far, far-few, far-in, far-length, far-out, first-places, last-places, places-in, places-out}
+use Rattle.intaglio_frozen.specs.Shards.{shard_of}
+use Rattle.intaglio_frozen.proofs.Numbered.{HavePlaces, so_far, far-few, far-in, far-length, far-out, last-places, places-in, places-out}
 use Rattle.intaglio_frozen.proofs.sharding.number_shard.Goals as goal
 use Rattle.intaglio_frozen.proofs.sharding.number_shard.Goals.{then-number-shards, else-number-shards}
 
@@ -14,36 +15,10 @@ overflow_add-next g c =
     let number = c.args.number in
     let w = get_or strings place [] in
     let at =
-    slice_get-get_or strings place [] (omega (
-      arith,
-      c.loop-place-test.true,
-      ap length c.requires.shards,
-      length-map strings (shard_of c.args._count),
-    )) in
+    slice_get-get_or strings place [] (omega (arith, ap length c.requires.shards, length-map strings (shard_of c.args._count))) in
     let next =
     far-in c.args._count strings shards c.requires.shards number place w at (sym c.if-number-shards.true) in
-    omega (
-      arith,
-      c.loop-place.invariant.next,
-      far-few c.args._count strings shards c.requires.shards number (place + 1),
-      ap length next,
-      length-append (so_far c.args._count strings number place) (w ∷ []),
-      c.requires.few,
-    )
-
-pub loop-place-init : goal.loop-place-init
-loop-place-init g c =
-    let strings = g.L.StringList.strings c.args._list.now in
-    record {
-      next = omega (
-        arith,
-        c.requires.start,
-        ap length (append-nil (joined (first_shards c.args._count strings c.args.number))),
-      );
-      places = first-places c.args._count strings c.args.shards.now c.requires.shards c.args.number
-          c.args.numbers.now c.requires.numbered;
-      len = refl;
-    }
+    omega (arith, far-few c.args._count strings shards c.requires.shards number (place + 1), ap length next, length-append (so_far c.args._count strings number place) (w ∷ []))
 
 pub loop-place-preserved : goal.loop-place-preserved
 loop-place-preserved g c =
@@ -65,13 +40,7 @@ loop-place-preserved g c =
           t.new.result is (t.new.ensures ∙ c.loop-place.invariant.next)
           (omega (arith, within, c.loop-place.invariant.len, c.requires.len)) c.loop-place.invariant.places in
           record {
-            next = omega (
-              arith,
-              t.next-is,
-              c.loop-place.invariant.next,
-              ap length longer,
-              length-append (so_far count strings number place) (w ∷ []),
-            );
+            next = grind (arith, common_steps);
             places = subst (HavePlaces count strings shards number (place + 1)) (sym t.numbers-is) placed;
             len = ap length t.numbers-is ∙ length-set c.loop-place.numbers place t.new.result
                 ∙ c.loop-place.invariant.len;
@@ -95,14 +64,7 @@ returns g c =
     let count = c.args._count in
     let shards = c.args.shards.now in
     let number = c.args.number in
-    let all : c.loop-place.place ≡ length strings =
-    omega (
-      arith,
-      c.loop-place-test.false,
-      c.loop-place.auto.place-end,
-      ap length c.requires.shards,
-      length-map strings (shard_of count),
-    ) in
+    let all : c.loop-place.place ≡ length strings = grind (arith, common_steps) in
     record {
       next = c.loop-place.invariant.next
           ∙ far-length count strings shards c.requires.shards number c.loop-place.place all;

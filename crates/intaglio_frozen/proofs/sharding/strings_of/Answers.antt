@@ -1,3 +1,4 @@
+use Rattle.std.proofs.lemmas.Grind.{common_steps}
 use Rattle.std.proofs.Common.{◌≡◌, ◌∙◌, ◌++◌, [], ◌∷◌, ap, arith, get_or, length, map, sym}
 use Rattle.std.proofs.lemmas.List.{length-map, map-append}
 use Rattle.std.proofs.lemmas.Option.{slice_get-get_or}
@@ -11,23 +12,11 @@ loop-i-preserved g c =
     let strings = g.L.StringList.strings c.args.list.now in
     let i = c.loop-i.i in
     elim c.if-shards-i.branch [
-      | then-shards-i+in_ok-push w ↦
-          let string = w.string.result in
-          let items : c.if-shards-i.strings.items ≡ c.loop-i.strings.items ++ string ∷ [] =
-          ap (λ t. t.items) w.strings-is ∙ w.in_ok-push.ensures.items in
-          ap (map (λ v. v.now)) items ∙ map-append (λ v. v.now) c.loop-i.strings.items (string ∷ [])
-          ∙ ap (λ t. t ++ string.now ∷ []) c.loop-i.invariant
-          ∙ sym (next-in c.args.count strings c.args.shards.now c.requires i c.args.number string.now
-          w.string.ensures w.if-shards-i.true)
+      | then-shards-i+in_ok-push w ↦ grind (arith, common_steps, map-append, next-in)
       | else-shards-i w ↦
           let string = get_or strings i [] in
           let there =
-          slice_get-get_or strings i [] (omega (
-            arith,
-            c.loop-i-test.true,
-            ap length c.requires,
-            length-map strings (shard_of c.args.count),
-          )) in
+          slice_get-get_or strings i [] (omega (arith, ap length c.requires, length-map strings (shard_of c.args.count))) in
           ap (λ t. map (λ v. v.now) t.items) w.strings-is ∙ c.loop-i.invariant
           ∙ sym (next-out c.args.count strings c.args.shards.now c.requires i c.args.number string there
           w.if-shards-i.false)

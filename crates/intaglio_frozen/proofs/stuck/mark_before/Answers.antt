@@ -1,3 +1,4 @@
+use Rattle.std.proofs.lemmas.Grind.{common_steps}
 use Rattle.std.proofs.Common.{◌∙◌, ℕ, ap, get_or, length, length-set, subst, sym, arith}
 use Rattle.intaglio_frozen.specs.Stuck.{IsBefore, place_under}
 use Rattle.intaglio_frozen.specs.Marks.{AreMarked}
@@ -28,8 +29,5 @@ loop-i-preserved c =
                   place = sym (w.place_under.ensures.value ∙ ap (λ f. place_under hs i (ps f)) other);
                 }) old.marked);
           })
-      | else-is_before w ↦ record {
-        len = ap (λ xs. length xs) w.marks-is ∙ old.len;
-        marked = subst (λ xs. AreMarked hs ps g xs 0) (sym w.marks-is) old.marked;
-      }
+      | else-is_before w ↦ grind (arith, common_steps)
     ]

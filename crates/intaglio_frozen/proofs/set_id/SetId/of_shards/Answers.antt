@@ -1,3 +1,4 @@
+use Rattle.std.proofs.lemmas.Grind.{common_steps}
 use Rattle.std.proofs.Common.{◌≡◌, ◌≢◌, List, [], ◌∷◌, length, refl, arith}
 use Rattle.intaglio_frozen.specs.declared.id.DictionaryId.{DictionaryId}
 use Rattle.intaglio_frozen.specs.SetId.{hashed_under, set_of_shards, shards_bytes}
@@ -10,6 +11,4 @@ hashed (id ∷ []) several = absurd (several refl)
 hashed (first ∷ second ∷ ids) several = refl
 
 pub returns : goal.returns
-returns c =
-    rw (c.hash_shards.ensures, c.hash_shards-2.ensures)
-    (hashed c.args.ids.now (λ one. omega (arith, c.if-ids-eq1.false, one)))
+returns c = grind (arith, common_steps, hashed)

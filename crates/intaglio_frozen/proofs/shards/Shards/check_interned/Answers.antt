@@ -1,29 +1,13 @@
-use Rattle.std.proofs.Common.{◌∙◌, Some, ap, arith, length, sym}
+use Rattle.std.proofs.lemmas.Grind.{common_steps}
+use Rattle.std.proofs.Common.{◌∙◌, Some, ap, arith, sym}
 use Rattle.intaglio_frozen.proofs.Sharded.{found-below, found-none, found-some, starts-length}
 use Rattle.intaglio_frozen.proofs.shards.Shards.check_interned.Goals as goal
 
 pub index-requires-in-Some : goal.index-requires-in-Some
-index-requires-in-Some c =
-    omega (
-      arith,
-      c.shard_of-shard.ensures.below,
-      c.len.ensures,
-      c.self.invariant.few,
-      c.self.inside.tables.ok.0,
-      c.self.inside.starts.ok.0,
-      ap length c.self.invariant.starts,
-      starts-length 0 c.self.inside.tables.items,
-    )
+index-requires-in-Some c = grind (arith, common_steps, starts-length)
 
 pub overflow_add-index : goal.overflow_add-index
-overflow_add-index c =
-    let below = found-below c.self.inside.tables.items c.self.inside.starts.items c.self.invariant.starts
-    c.self.invariant.placed c.args.string.now c.len.result c.shard_of-shard.result
-    c.index.result.now (omega (arith, c.len.ensures, c.self.inside.tables.ok.0))
-    c.shard_of-shard.ensures.value c.shard_of-shard.ensures.below c.index.ensures
-    c.index-in-Some.result.now c.id.result c.index-in-Some.ensures (ap Some c.id.ensures ∙ sym c.in-Some.is
-    ∙ c.check_interned.ensures.value) in
-    omega (arith, below, c.self.invariant.numbered)
+overflow_add-index c = grind (arith, common_steps, found-below)
 
 pub returns-in-Some : goal.returns-in-Some
 returns-in-Some c =
@@ -36,10 +20,4 @@ returns-in-Some c =
     rw (← c.self.view_is) (ap Some c.new.ensures ∙ found)
 
 pub returns-in-None : goal.returns-in-None
-returns-in-None c =
-    let none = found-none c.self.inside.tables.items c.self.inside.starts.items c.self.invariant.starts
-    c.self.invariant.placed c.args.string.now c.len.result c.shard_of-shard.result
-    c.index.result.now (omega (arith, c.len.ensures, c.self.inside.tables.ok.0))
-    c.shard_of-shard.ensures.value c.shard_of-shard.ensures.below c.index.ensures
-    (sym c.in-None.is ∙ c.check_interned.ensures.value) in
-    rw (← c.self.view_is) none
+returns-in-None c = grind (arith, common_steps, found-none)
