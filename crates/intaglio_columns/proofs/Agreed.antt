@@ -1,8 +1,9 @@
 -- A column and maps that meet.
-use Rattle.std.proofs.Common.{◌≡◌, ◌∙◌, ap, refl, ℕ, ◌<◌, Bool, true, false, cond, nat_lt, List, [], get_or, length, map, subst, Some, arith}
+use Rattle.std.proofs.lemmas.Grind.{common_steps}
+use Rattle.std.proofs.Common.{◌≡◌, ◌∙◌, ap, ℕ, ◌<◌, Bool, true, false, cond, nat_lt, List, [], get_or, length, map, subst, Some, arith}
 use Rattle.std.specs.List.{slice_get, All}
 use Rattle.std.proofs.lemmas.Bool.Decides.{nat_tests}
-use Rattle.std.proofs.lemmas.Option.{get_or_from_slice_get, slice_get-get_or, slice_get_read, slice_get_within}
+use Rattle.std.proofs.lemmas.Option.{slice_get-get_or}
 use Rattle.intaglio_columns.specs.declared.file.source.RowSource.{RowSource}
 use Rattle.intaglio_columns.specs.IsColumn.{IsColumn}
 use Rattle.intaglio_columns.specs.Layout.{codes, shards, source_of, strings}
@@ -22,16 +23,12 @@ LeadsRight column maps i = (m : List ℕ) → slice_get maps i ≡ Some m →
 
 pub right-at : (column : List ℕ) (maps : List (List ℕ)) (i : ℕ) (m : List ℕ) → slice_get maps i ≡ Some m →
     source_of m ≡ source_for column i → LeadAlike (get_or maps 0 []) m → LeadsRight column maps i
-right-at column maps i m at from alike = λ other there.
-    let same : m ≡ other = cc in
-    subst (λ t. (source_of t ≡ source_for column i) × LeadAlike (get_or maps 0 []) t) same (from, alike)
+right-at column maps i m at from alike = grind (arith, common_steps)
 
 -- the first map, if there is one
 pub first-is : (maps : List (List ℕ)) (i : ℕ) (m first : List ℕ) → slice_get maps i ≡ Some m →
     first ≡ get_or maps 0 first → get_or maps 0 [] ≡ first
-first-is maps i m first at is =
-    let within = slice_get_within maps i m at in
-    get_or_from_slice_get maps 0 first [] (slice_get_read maps (length maps) 0 first refl (omega (arith, within)) is)
+first-is maps i m first at is = grind (arith, common_steps)
 
 -- rows that come from one dictionary, whose map leads to another, can be those of a column of the other
 source-fits : (from into : ℕ) (s t : RowSource) → fits from s ≡ true → fits into t ≡ true →

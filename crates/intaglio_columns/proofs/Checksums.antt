@@ -1,4 +1,5 @@
 -- The checksum of a column.
+use Rattle.std.proofs.lemmas.Grind.{common_steps}
 use Rattle.std.proofs.Common.{◌≡◌, ◌∙◌, ◌≤◌, ℕ, List, ◌++◌, drop, length, take, sym, ap, arith}
 use Rattle.std.specs.Hash.DefaultHasher.{write, write_byte}
 use Rattle.std.specs.declared.hash.DefaultHasher.{DefaultHasher}
@@ -15,9 +16,7 @@ write-behind h xs ys = sym (fold-append write_byte h xs ys)
 -- three parts that are written after some bytes are written at once
 pub of_parts : (h0 h1 h2 h3 h4 : DefaultHasher) (cs xs ys zs : List ℕ) → h1 ≡ write h0 cs →
     h2 ≡ write h1 xs → h3 ≡ write h2 ys → h4 ≡ write h3 zs → h4 ≡ write (write h0 cs) (xs ++ ys ++ zs)
-of_parts h0 h1 h2 h3 h4 cs xs ys zs e1 e2 e3 e4 =
-    let front = e3 ∙ ap (λ t. write t ys) e2 ∙ write-behind h1 xs ys in
-    e4 ∙ ap (λ t. write t zs) front ∙ write-behind h1 (xs ++ ys) zs ∙ ap (λ t. write t (xs ++ ys ++ zs)) e1
+of_parts h0 h1 h2 h3 h4 cs xs ys zs e1 e2 e3 e4 = grind (arith, common_steps, write-behind)
 
 -- eight bytes that are written behind the first 56
 pub put_at_56 : (xs ys : List ℕ) → 128 ≤ length xs → length ys ≡ 8 →

@@ -1,4 +1,5 @@
 -- Codes that follow each other, and where they stand.
+use Rattle.std.proofs.lemmas.Grind.{common_steps}
 use Rattle.std.proofs.Common.{◌≡◌, ◌∙◌, ℕ, zero, suc, ◌+◌, ◌*◌, ◌<◌, List, length, get_or, slice_get, Some, refl, sym, ap, arith}
 use Rattle.std.proofs.lemmas.Option.{get_or_from_slice_get, slice_get-get_or}
 use Rattle.intaglio_columns.specs.Width.{bytes_of}
@@ -35,10 +36,7 @@ all_get bs i l =
 -- a code that was read
 pub read_get : (bs : List ℕ) (w : Width) (row size code : ℕ) → w ≡ width bs → row < rows bs →
     size ≡ bytes_of w → code ≡ code_at bs w (128 + size * row) → slice_get (codes bs) row ≡ Some code
-read_get bs w row size code ew l es e =
-    let at = ap (λ v. code_at bs v (128 + bytes_of v * row)) (sym ew)
-    ∙ ap (λ s. code_at bs w (128 + s * row)) (sym es) ∙ sym e in
-    all_get bs row l ∙ ap Some at
+read_get bs w row size code ew l es e = grind (arith, common_steps, all_get)
 
 -- the same, where a row without a code reads as 0
 pub read_or : (bs : List ℕ) (w : Width) (row size : ℕ) → w ≡ width bs → row < rows bs → size ≡ bytes_of w →

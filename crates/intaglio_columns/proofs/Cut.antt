@@ -1,6 +1,6 @@
 -- Where the first piece of bytes ends: a line, or a code of four bytes.
-use Rattle.std.proofs.Common.{◌≡◌, ◌∙◌, sym, ap, refl, subst, ℕ, zero, suc, ◌+◌, ◌-◌, ◌*◌, ◌/◌, ◌%◌, ◌≤◌, Bool, true, false, eqb, eq-eqb, ltb, lt-ltb, le-ltb, not, cond, length-drop, List, [], ◌∷◌, ◌++◌, length, take, drop, get_or, Option, None, Some, option_map, append_assoc, arith}
-use borrow.Author.Tests.{ltb-true, ltb-false}
+use Rattle.std.proofs.lemmas.Grind.{common_steps}
+use Rattle.std.proofs.Common.{◌≡◌, ◌∙◌, sym, ap, refl, subst, ℕ, zero, suc, ◌+◌, ◌-◌, ◌*◌, ◌/◌, ◌%◌, ◌≤◌, Bool, true, eqb, eq-eqb, ltb, not, cond, length-drop, List, [], ◌∷◌, ◌++◌, length, take, drop, get_or, Option, None, Some, option_map, append_assoc, arith}
 use Rattle.std.specs.List.{position, prefix_len, slice_get, AllByRecursion}
 use Rattle.std.proofs.lemmas.List.{length-map, length-take, take-append-drop, take_rest}
 use Rattle.std.proofs.lemmas.List.Folds.{prefix_len-append}
@@ -33,15 +33,7 @@ line-last (b ∷ bytes) is = lines-cut-nowhere (b ∷ bytes) is (omega arith)
 -- a byte 10 behind bytes that have none
 cond-behind : (n m l : ℕ) →
     cond (ltb (n + m) (n + l)) (Some (n + m)) None ≡ option_map (λ k. n + k) (cond (ltb m l) (Some m) None)
-cond-behind n m l = by-order (ltb m l) refl
-  where
-    by-order : (b : Bool) → ltb m l ≡ b →
-        cond (ltb (n + m) (n + l)) (Some (n + m)) None
-        ≡ option_map (λ k. n + k) (cond (ltb m l) (Some m) None)
-    by-order true is = let more : ltb (n + m) (n + l) ≡ true =
-        lt-ltb (n + m) (n + l) (omega (arith, ltb-true m l is)) in rw (is, more) refl
-    by-order false is = let more : ltb (n + m) (n + l) ≡ false =
-        le-ltb (n + m) (n + l) (omega (arith, ltb-false m l is)) in rw (is, more) refl
+cond-behind n m l = grind (arith, common_steps)
 
 -- if the first n bytes have no byte 10, the first one of all is n further on than in the bytes behind those
 pub position-behind : (bytes : List ℕ) (n : ℕ) → n ≤ length bytes →

@@ -4,18 +4,10 @@ use Rattle.std.specs.List.{slice_get}
 use Rattle.std.proofs.lemmas.List.{get_or-map, length-take, take-append-drop}
 use Rattle.std.proofs.lemmas.List.Elements.{All-nil, All-cons, All-append}
 use Rattle.std.proofs.lemmas.Option.{slice_get_within, get_or_from_slice_get}
-use Rattle.intaglio_columns.specs.Translation.{AllFit, ReportsAmong, ReportsPiece, StartsWith}
+use Rattle.intaglio_columns.specs.Translation.{AllFit, ReportsAmong, ReportsPiece}
 use Rattle.intaglio_columns.specs.declared.translate.TranslateError.{TranslateError}
 use Rattle.intaglio_columns.specs.declared.translate.TranslateError.TheVariants.{Misfit, Stream}
 use Rattle.intaglio_columns.proofs.Listed.{next}
-
--- some pieces at the front, and one more
-pub starts-more : (pieces : List ℕ → List (List ℕ)) (bytes rest behind : List ℕ) (ps : List (List ℕ))
-    (piece : List ℕ) → StartsWith pieces bytes ps rest → StartsWith pieces rest (piece ∷ []) behind
-    → StartsWith pieces bytes (ps ++ piece ∷ []) behind
-starts-more pieces bytes rest behind ps piece first second more =
-    first more ∙ ap (λ t. ps ++ t) (second more)
-    ∙ sym (append_assoc ps (piece ∷ []) (pieces (behind ++ more)))
 
 module _ (fits : List ℕ → Bool) (xs : List (List ℕ)) (i : ℕ) (x : List ℕ) (at : slice_get xs i ≡ Some x) where
   -- the pieces so far can be translated, and the next one

@@ -1,4 +1,5 @@
 -- What was interned of an input, and what lines behind it add.
+use Rattle.std.proofs.lemmas.Grind.{common_steps}
 use Rattle.std.proofs.Common.{◌≡◌, ◌∙◌, ◌⊎◌, inl, inr, sym, ap, refl, subst, ℕ, zero, suc, ◌+◌, ◌-◌, ◌^◌, ◌<◌, ◌≤◌, min, Bool, true, List, [], ◌∷◌, ◌++◌, length, take, drop, get_or, Option, None, Some, IfSome, append_assoc, append-nil, length-append, arith}
 use Rattle.std.specs.Io.KnownBytes.{Consumes, IsAtEnd}
 use Rattle.std.proofs.Math.Seq.{take-suc}
@@ -47,9 +48,7 @@ issue-length held (c ∷ cs) = ap suc (issue-length (interned (λ w. w ∷ []) h
 -- what is held after lines behind others is what all of them give
 pub held-append : (front lines : List ℕ) → is_ended front ≡ true →
     interned_all (λ w. w ∷ []) (distinct_lines front) (lines_of lines) ≡ distinct_lines (front ++ lines)
-held-append front lines ended =
-    sym (interned_all-append (λ w. w ∷ []) [] (lines_of front) (lines_of lines))
-    ∙ ap (λ t. interned_all (λ w. w ∷ []) [] t) (sym (lines_of-append front lines ended))
+held-append front lines ended = grind (arith, common_steps, interned_all-append, lines_of-append)
 
 module _ (kind : Kind) (is_kept : Bool) (front lines : List ℕ) (old new : State (List ℕ))
     (symbols later : List ℕ) (count after : ℕ) (ended : is_ended front ≡ true)

@@ -1,7 +1,7 @@
 -- Maps in columns, as one map.
-use Rattle.std.proofs.Common.{◌≡◌, ◌≢◌, ◌∙◌, ◌==◌, sym, ap, refl, ℕ, zero, suc, ◌+◌, ◌<◌, ◌≤◌, Bool, true, false, cond, eq-eqb, List, [], ◌∷◌, ◌++◌, get_or, length, map, take, Some, inl, inr, append_assoc, length-append, arith}
+use Rattle.std.proofs.lemmas.Grind.{common_steps}
+use Rattle.std.proofs.Common.{◌≡◌, ◌≢◌, ◌∙◌, ◌==◌, sym, ap, refl, ℕ, zero, suc, ◌+◌, ◌<◌, ◌≤◌, Bool, true, false, cond, List, [], ◌∷◌, ◌++◌, get_or, length, map, take, Some, inl, inr, append_assoc, length-append, arith}
 use Rattle.std.specs.List.{slice_get, All}
-use Rattle.std.proofs.lemmas.Bool.{true≢false}
 use Rattle.std.proofs.lemmas.List.{length-map, map-append}
 use Rattle.std.proofs.lemmas.Option.{slice_get-get_or}
 use Rattle.intaglio_frozen.specs.Shards.{AreWithin, joined, joined_map, sum_of}
@@ -36,9 +36,7 @@ first-other false row rest none = (refl, none)
 none-missing : (row : ℕ) (cs : List ℕ) → rows_from (λ c. c == missing) row cs ≡ [] → (i code : ℕ) →
     slice_get cs i ≡ Some code → code ≢ missing
 none-missing row [] none i code at = cc
-none-missing row (c ∷ cs) none zero code at = λ e.
-    let same : c ≡ code = cc in
-    true≢false (sym (eq-eqb c missing (same ∙ e)) ∙ (first-other (c == missing) row _ none).0)
+none-missing row (c ∷ cs) none zero code at = grind (arith, common_steps)
 none-missing row (c ∷ cs) none (suc i) code at =
     none-missing (row + 1) cs (first-other (c == missing) row _ none).1 i code at
 

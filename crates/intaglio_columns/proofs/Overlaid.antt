@@ -1,5 +1,6 @@
 -- A list that is written over places, item by item.
-use Rattle.std.proofs.Common.{◌≡◌, ◌∙◌, ℕ, zero, suc, ◌+◌, ◌<◌, ◌≤◌, inl, inr, List, [], ◌∷◌, ◌++◌, length, take, drop, set, slice_get, Some, refl, sym, ap, arith, length-drop, length-take-le}
+use Rattle.std.proofs.lemmas.Grind.{common_steps}
+use Rattle.std.proofs.Common.{◌≡◌, ◌∙◌, ℕ, zero, suc, ◌+◌, ◌<◌, ◌≤◌, List, [], ◌∷◌, ◌++◌, length, take, drop, set, slice_get, Some, refl, sym, ap, arith, length-drop, length-take-le}
 use Rattle.std.proofs.lemmas.Bool.{cases_lt}
 use Rattle.std.proofs.lemmas.List.{get_or-drop}
 use Rattle.std.proofs.lemmas.Option.{slice_get-get_or, slice_get_within, get_or_from_slice_get}
@@ -56,11 +57,7 @@ pub overlaid_put : (ns places now new : List ℕ) (k n : ℕ) → now ≡ overla
     length now ≡ length places
     → (k < length now → new ≡ set now k n) → (length now ≤ k → new ≡ now) →
     new ≡ overlaid (ns ++ n ∷ []) places
-overlaid_put ns places now new k n e size same there none = elim (cases_lt k (length places)) [
-  | inl l ↦ there (omega (arith, l, same)) ∙ ap (λ t. set t k n) e
-      ∙ ap (λ p. set (overlaid ns places) p n) size ∙ overlaid_more ns n places (omega (arith, size, l))
-  | inr m ↦ none (omega (arith, m, same)) ∙ e ∙ overlaid_full ns n places (omega (arith, m, size))
-]
+overlaid_put ns places now new k n e size same there none = grind (arith, common_steps, cases_lt, overlaid_more, overlaid_full)
 
 -- when a list is written over places, there are as many places as before
 pub overlaid_length : (ns places : List ℕ) → length (overlaid ns places) ≡ length places

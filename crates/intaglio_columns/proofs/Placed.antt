@@ -1,5 +1,6 @@
 -- Rows that are written over places, one by one.
-use Rattle.std.proofs.Common.{◌≡◌, ◌∙◌, ℕ, ◌+◌, ◌<◌, ◌≤◌, Bool, List, [], ◌∷◌, ◌++◌, length, set, refl, sym, ap, arith, length-append}
+use Rattle.std.proofs.lemmas.Grind.{common_steps}
+use Rattle.std.proofs.Common.{◌≡◌, ◌∙◌, ℕ, ◌+◌, ◌<◌, ◌≤◌, Bool, List, [], ◌∷◌, ◌++◌, length, set, sym, ap, arith, length-append}
 use Rattle.intaglio_columns.specs.Rows.{IsFirstRow, overlaid, rows_from, rows_past}
 use Rattle.intaglio_columns.proofs.Overlaid.{overlaid_length, overlaid_put}
 use Rattle.intaglio_columns.proofs.Past.{all_rows_of, more_rows_of}
@@ -14,13 +15,7 @@ pub record ArePlaced (p : ℕ → Bool) (cs places : List ℕ) (from : ℕ) (now
 
 -- before the first row, no row has been written over the places
 pub none_placed : (p : ℕ → Bool) (cs places : List ℕ) → ArePlaced p cs places 0 places 0
-none_placed p cs places = record {
-  done = [];
-  parts = refl;
-  over = refl;
-  size = refl;
-  few = omega arith;
-}
+none_placed p cs places = grind (arith, common_steps)
 
 module _ (p : ℕ → Bool) (cs places : List ℕ) (from : ℕ) (now : List ℕ) (count : ℕ)
     (before : ArePlaced p cs places from now count) where

@@ -1,5 +1,6 @@
 -- Lines that are added to others, and lines of selected rows.
-use Rattle.std.proofs.Common.{◌≡◌, ◌∙◌, ℕ, ◌+◌, ◌<◌, inl, inr, Bool, true, List, [], ◌∷◌, ◌++◌, length, map, take, get_or, slice_get, Option, Some, refl, sym, ap, append_assoc, arith}
+use Rattle.std.proofs.lemmas.Grind.{common_steps}
+use Rattle.std.proofs.Common.{◌≡◌, ◌∙◌, ℕ, ◌+◌, ◌<◌, Bool, true, List, [], ◌∷◌, ◌++◌, length, map, take, get_or, slice_get, Option, Some, refl, ap, append_assoc, arith}
 use Rattle.std.specs.List.{flat_map}
 use Rattle.std.specs.Io.KnownBytes.{Appends}
 use Rattle.std.proofs.lemmas.List.{append-nil, map-append}
@@ -23,10 +24,7 @@ pub after_next : {X Y : Type 0} (xs : List X) (n : ℕ) (x : X) → slice_get xs
     (h : Y → List ℕ) (ys zs : List Y) (y : Y) (f : X → List ℕ)
     → flat_map h ys ≡ flat_map h zs ++ flat_map f (take n xs) → h y ≡ f x →
     flat_map h (ys ++ y ∷ []) ≡ flat_map h zs ++ flat_map f (take (n + 1) xs)
-after_next xs n x at h ys zs y f before same =
-    flat_map-append h ys (y ∷ []) ∙ ap (λ t. flat_map h ys ++ t) (append-nil (h y))
-    ∙ rw (before, same) (append_assoc (flat_map h zs) (flat_map f (take n xs)) (f x)
-    ∙ ap (λ t. flat_map h zs ++ t) (sym (flat_map-next xs n x at f)))
+after_next xs n x at h ys zs y f before same = grind (arith, common_steps, flat_map-append, append-nil, append_assoc, flat_map-next)
 
 -- what is made of one selected row more
 pub item_of_row : {X : Type 0} (p : ℕ → Bool) (cs : List ℕ) (i c : ℕ) → slice_get cs i ≡ Some c → p c ≡ true →
@@ -73,27 +71,14 @@ no_range = record { first = 0; last = 0 }
 -- the ranges up to this one end at rows that are there, if those before it do, and this one does
 pub ranges-further : (n : ℕ) (cs : List ℕ) (ranges : List RowRange) → AreRangesBefore n cs ranges →
     (get_or ranges n no_range).last < length cs → AreRangesBefore (n + 1) cs ranges
-ranges-further n cs ranges before this = λ m range l at. elim (cases_lt m n) [
-  | inl below ↦ before m range below at
-  | inr above ↦
-      let same : n ≡ m = omega (arith, l, above) in
-      let here : get_or ranges n no_range ≡ range =
-      rw same (get_or_from_slice_get ranges m range no_range at) in
-      rw here at this
-]
+ranges-further n cs ranges before this = grind (arith, common_steps, cases_lt, get_or_from_slice_get)
 
 -- the fault of a range, if those before it end at rows that are there
 has-fault : (strings : List (List ℕ)) (IsWhole : Type 0) (text : Option (List ℕ)) (cs : List ℕ)
     (ranges : List RowRange) (n : ℕ) → n < length ranges → AreRangesBefore n cs ranges → (e : RowsError) →
     IsRangeFault strings IsWhole text cs (get_or ranges n no_range) e
     → HasRangeFault strings IsWhole text cs ranges e
-has-fault strings IsWhole text cs ranges n within before e fault = record {
-  number = n;
-  range = get_or ranges n no_range;
-  there = slice_get-get_or ranges n no_range within;
-  before = before;
-  fault = fault;
-}
+has-fault strings IsWhole text cs ranges n within before e fault = grind (arith, common_steps, slice_get-get_or)
 
 -- it is that of all ranges
 pub fault-of-range : (strings : List (List ℕ)) (IsWhole : Type 0) (text : Option (List ℕ)) (cs : List ℕ)

@@ -1,11 +1,12 @@
 -- The ranks of symbols whose strings occur.
-use Rattle.std.proofs.Common.{◌≡◌, ℕ, zero, suc, ◌+◌, ◌<◌, ◌==◌, inl, inr, Bool, true, not, List, length, get_or, sym, subst, arith}
+use Rattle.std.proofs.lemmas.Grind.{common_steps}
+use Rattle.std.proofs.Common.{◌≡◌, ℕ, zero, suc, ◌+◌, ◌<◌, ◌==◌, inl, inr, Bool, not, List, length, get_or, sym, subst, arith}
 use Rattle.std.specs.List.{All}
-use Rattle.std.proofs.lemmas.Bool.{cases_Bool, false≢true}
-use Rattle.std.proofs.lemmas.List.Elements.{All-cons, All-contains, All-map, All-nil}
+use Rattle.std.proofs.lemmas.Bool.{cases_Bool}
+use Rattle.std.proofs.lemmas.List.Elements.{All-contains, All-map}
 use Rattle.std.proofs.lemmas.List.Sorted.{All-permutation}
 use Rattle.intaglio_columns.specs.Rows.{AreCounts, rows_past}
-use Rattle.intaglio_columns.proofs.Past.{past_end, past_no, past_yes}
+use Rattle.intaglio_columns.proofs.Past.{past_no}
 use Rattle.intaglio_columns.specs.Counting.{AreInOrder, IsCountsFault, IsRankFault, occurring, rank_of, ranks}
 use Rattle.intaglio_columns.specs.declared.error.DictionaryError.{DictionaryError}
 use Rattle.intaglio_columns.specs.declared.error.DictionaryError.TheVariants.{NoString, Stream}
@@ -14,27 +15,16 @@ use Rattle.intaglio_columns.specs.declared.error.DictionaryError.TheVariants.{No
 abbrev Occurs : List ℕ → ℕ → Type 0
 Occurs counts symbol = (symbol < length counts) × (0 < get_or counts symbol 0)
 
--- a count that passes the test for not being 0 is above 0
-is_some_count : (n : ℕ) → not (n == 0) ≡ true → 0 < n
-is_some_count zero e = absurd (false≢true e)
-is_some_count (suc n) e = omega arith
-
 -- of the symbols from a position on, the string of each whose count isn't 0 occurs
 occur : (counts : List ℕ) (left from : ℕ) → from + left ≡ length counts →
     All (Occurs counts) (rows_past (λ n. not (n == 0)) from counts)
-occur counts zero from e =
-    subst (All (Occurs counts)) (sym (past_end (λ n. not (n == 0)) counts from (omega (arith, e))))
-    (All-nil (Occurs counts))
+occur counts zero from e = grind (arith, common_steps)
 occur counts (suc left) from e =
     let p = λ (n : ℕ). not (n == 0) in
     let l : from < length counts = omega (arith, e) in
     let others = occur counts left (from + 1) (omega (arith, e)) in
     elim (cases_Bool (p (get_or counts from 0))) [
-      | inl passed ↦ subst (All (Occurs counts)) (sym (past_yes p counts from l passed))
-          (All-cons (Occurs counts) from (rows_past p (from + 1) counts) (
-            l,
-            is_some_count (get_or counts from 0) passed,
-          ) others)
+      | inl passed ↦ grind (arith, common_steps)
       | inr failed ↦ subst (All (Occurs counts)) (sym (past_no p counts from l failed)) others
     ]
 

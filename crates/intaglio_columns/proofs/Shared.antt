@@ -1,4 +1,5 @@
 -- Lists that are shared out to shards.
+use Rattle.std.proofs.lemmas.Grind.{common_steps}
 use Rattle.std.proofs.Common.{◌≡◌, ◌∙◌, sym, ap, refl, ℕ, zero, suc, ◌≤◌, List, [], ◌∷◌, length, length-append, map, take, Some, arith}
 use Rattle.std.proofs.lemmas.List.{length-map, take_all}
 use Rattle.std.proofs.lemmas.Simd.{map-map}
@@ -46,18 +47,10 @@ pub keeps-input : (kind : Kind) (many : ℕ) (lists : List (List (List ℕ))) (n
     → KeepsInput many (renumber numbers symbols) state symbols count
 keeps-input kind many lists numbers symbols set state count shared other input done =
     let codes = renumber numbers symbols in
-    let few : length (joined lists) ≤ missing =
-    omega (
-      arith,
-      ap (λ t. length (joined t)) shared.split,
-      few-strings many state.contents many,
-      shared.few,
-    ) in
+    let few : length (joined lists) ≤ missing = grind (arith, common_steps, few-strings) in
     let kept : decode (joined lists) codes ≡ decode state.contents symbols =
     renumbered (joined lists) few state.contents numbers symbols shared.map in
     let same : joined (shards many (distinct_lines input)) ≡ joined lists =
     ap (λ t. joined (shards many t)) (sym done.held) ∙ ap joined (sym shared.split) in
-    let read : decode state.contents symbols ≡ map Some (lines_of input) =
-    ap (λ t. decode t symbols) done.held ∙ ap (decode (distinct_lines input)) (done.issued refl)
-    ∙ issued-map [] (lines_of input) in
+    let read : decode state.contents symbols ≡ map Some (lines_of input) = grind (arith, common_steps, issued-map) in
     ap (λ t. decode t codes) same ∙ kept ∙ read

@@ -1,7 +1,7 @@
 -- An input that is translated piece by piece.
 use Rattle.std.proofs.Common.{◌≡◌, ◌∙◌, sym, ap, refl, subst, ℕ, ◌+◌, ◌-◌, ◌^◌, min, eqb, Bool, true, false, Result, Ok, Err, IfOk, OnOk, List, [], ◌∷◌, ◌++◌, length, Option, None, Some, IfSome, length-append, append-nil, append_assoc, arith}
 use Rattle.std.specs.List.{flat_map}
-use Rattle.std.specs.Io.KnownBytes.{Appends, Consumes, IsAtEnd, Keeps, append_known}
+use Rattle.std.specs.Io.KnownBytes.{Appends, Consumes, IsAtEnd, append_known}
 use Rattle.std.proofs.lemmas.Grind.{flat_map-append}
 use Rattle.std.proofs.lemmas.List.Elements.{All-nil, All-cons, All-append}
 use Rattle.intaglio_lines.specs.Puts.{IsFront}
@@ -349,9 +349,3 @@ written-out None mid new block bytes put out = tt
 written-out (Some x) None new block bytes put out = absurd put
 written-out (Some x) (Some y) None block bytes put out = absurd out
 written-out (Some x) (Some y) (Some z) block bytes put out = out ∙ put
-
--- a read that gave nothing
-pub none-read : (old new : Option (List ℕ)) → Keeps old new → Consumes old new []
-none-read None new keeps = tt
-none-read (Some x) None keeps = absurd keeps
-none-read (Some x) (Some y) keeps = sym keeps

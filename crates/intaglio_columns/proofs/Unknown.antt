@@ -1,7 +1,8 @@
 -- Codes that are neither those of strings nor missing.
+use Rattle.std.proofs.lemmas.Grind.{common_steps}
 use Rattle.std.proofs.Common.{◌≡◌, ◌≢◌, ◌∙◌, ℕ, zero, suc, ◌+◌, ◌<◌, ◌≤◌, inl, inr, Bool, true, false, cond, List, [], ◌∷◌, length, get_or, slice_get, Option, None, Some, MatchOption, sym, ap, arith}
 use Rattle.std.proofs.lemmas.Bool.Decides.{nat_tests}
-use Rattle.std.proofs.lemmas.Bool.{cases_eq, cases_lt, false_from_ne_true, true≢false}
+use Rattle.std.proofs.lemmas.Bool.{false_from_ne_true, true≢false}
 use Rattle.std.proofs.lemmas.Option.{get_or_from_slice_get, slice_get-get_or, slice_get_within}
 use Rattle.intaglio_columns.specs.Width.{missing}
 use Rattle.intaglio_columns.specs.Codes.{AreCodes, IsCode, is_unknown}
@@ -42,13 +43,7 @@ gone n c same = grind (arith, nat_tests)
 
 -- a code that isn't unknown is that of one of n strings, or the missing one
 code_known : (n c : ℕ) → is_unknown n c ≡ false → IsCode n c
-code_known n c e = elim (cases_lt c n) [
-  | inl l ↦ inl l
-  | inr m ↦ elim (cases_eq c missing) [
-    | inl same ↦ inr same
-    | inr other ↦ absurd (true≢false (sym (above n c m other) ∙ e))
-  ]
-]
+code_known n c e = grind (arith, common_steps)
 
 -- an unknown code is neither that of one of n strings nor the missing one
 code_unknown : (n c : ℕ) → is_unknown n c ≡ true → ¬ IsCode n c
@@ -82,9 +77,7 @@ none_before p k row (x ∷ xs) rest first (suc i) l later =
 -- a code that the test doesn't pass is known
 known_at : (n count : ℕ) (cs : List ℕ) → count ≡ n → (row code : ℕ) → slice_get cs row ≡ Some code →
     is_unknown count (get_or cs row 0) ≡ false → IsCode n code
-known_at n count cs e row code at known =
-    code_known n code (ap (λ m. is_unknown m code) (sym e)
-    ∙ ap (is_unknown count) (sym (get_or_from_slice_get cs row code 0 at)) ∙ known)
+known_at n count cs e row code at known = grind (arith, common_steps, code_known, get_or_from_slice_get)
 
 -- the first row whose code is unknown, or all are known
 pub first_of_unknown : (n count : ℕ) (cs : List ℕ) (found : Option ℕ) → count ≡ n →

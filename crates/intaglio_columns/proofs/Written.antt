@@ -1,11 +1,12 @@
 -- What is written of codes is a column of them.
-use Rattle.std.proofs.Common.{◌≡◌, ◌≢◌, ◌∙◌, ◌==◌, ℕ, zero, suc, ◌+◌, ◌*◌, ◌/◌, ◌%◌, ◌^◌, ◌<◌, ◌≤◌, inl, inr, ◌⊎◌, true, false, cond, List, [], ◌∷◌, ◌++◌, length, get_or, slice_get, Some, Bool, refl, sym, ap, subst, arith, eq-eqb, length-append}
+use Rattle.std.proofs.lemmas.Grind.{common_steps}
+use Rattle.std.proofs.Common.{◌≡◌, ◌≢◌, ◌∙◌, ◌==◌, ℕ, zero, suc, ◌+◌, ◌*◌, ◌/◌, ◌%◌, ◌^◌, ◌<◌, ◌≤◌, inl, inr, ◌⊎◌, true, false, cond, List, [], ◌∷◌, ◌++◌, length, slice_get, Some, Bool, refl, sym, ap, subst, arith, eq-eqb, length-append}
 use Rattle.std.proofs.lemmas.List.{append_assoc}
 use Rattle.std.specs.List.{flat_map}
 use Rattle.std.specs.Int.{w16, w32, w64, to_le_bytes, from_le_bytes}
-use Rattle.std.proofs.lemmas.Bool.{cases_lt, ne_eqb, le-leb, lt-leb}
+use Rattle.std.proofs.lemmas.Bool.{ne_eqb}
 use Rattle.std.proofs.lemmas.List.{get_or-append-add}
-use Rattle.std.proofs.lemmas.Nat.{from_le_bytes-to_le_bytes_2, from_le_bytes-to_le_bytes_4, from_le_bytes-to_le_bytes_8}
+use Rattle.std.proofs.lemmas.Nat.{from_le_bytes-to_le_bytes_2, from_le_bytes-to_le_bytes_4}
 use Rattle.intaglio_hash.specs.Push.{number}
 use Rattle.intaglio_hash.specs.Numbers.{u32_at, u64_at}
 use Rattle.intaglio_frozen.specs.Id.{kind_number}
@@ -14,7 +15,7 @@ use Rattle.intaglio_columns.specs.Source.{fits}
 use Rattle.intaglio_columns.specs.Layout.{checksum_of, code_at, codes_at, codes, widened, rows, source_kind, source_of, strings, width}
 use Rattle.intaglio_columns.specs.Codes.{AreCodes, IsCode}
 use Rattle.intaglio_columns.specs.Fault.{HasGap}
-use Rattle.intaglio_columns.specs.Rows.{rows_of, rows_past}
+use Rattle.intaglio_columns.specs.Rows.{rows_of}
 use Rattle.intaglio_columns.specs.IsColumn.{HasChecksum, HasRows, IsHeaderOf, IsReserved, end_of, magic}
 use Rattle.intaglio_columns.specs.Writing.{HasRanges, code_bytes, file_of, header_for, header_of, reserved_bytes, source_bytes, start_of}
 use Rattle.intaglio_columns.specs.declared.file.header.ColumnHeader.{ColumnHeader}
@@ -25,11 +26,7 @@ use Rattle.intaglio_columns.specs.declared.file.width.Width.TheVariants.{One, Tw
 -- a number behind other bytes
 number_behind : (xs ys : List ℕ) (j n : ℕ) → number (xs ++ ys) (length xs) j n ≡ number ys 0 j n
 number_behind xs ys j zero = refl
-number_behind xs ys j (suc n) =
-    let byte : get_or (xs ++ ys) (length xs + j) 0 ≡ get_or ys (0 + j) 0 =
-    get_or-append-add xs ys j 0 ∙ ap (λ p. get_or ys p 0) (omega arith) in
-    let rest = number_behind xs ys (suc j) n in
-    cc
+number_behind xs ys j (suc n) = grind (arith, common_steps, get_or-append-add)
 
 -- the code right behind some bytes is the first one of what follows them
 code_behind : (xs ys : List ℕ) (w : Width) (at : ℕ) → at ≡ length xs →
@@ -46,11 +43,6 @@ same2 a b = omega arith
 same4 : (a b c d : ℕ) → number (a ∷ b ∷ c ∷ d ∷ []) 0 0 4 ≡ from_le_bytes w32 (a ∷ b ∷ c ∷ d ∷ [])
 same4 a b c d = omega arith
 
--- eight bytes make the number that `from_le_bytes` makes of them
-same8 : (a b c d e f g h : ℕ) →
-    number (a ∷ b ∷ c ∷ d ∷ e ∷ f ∷ g ∷ h ∷ []) 0 0 8 ≡ from_le_bytes w64 (a ∷ b ∷ c ∷ d ∷ e ∷ f ∷ g ∷ h ∷ [])
-same8 a b c d e f g h = omega arith
-
 -- a number below 2 ^ 16 is read from its two little-endian bytes
 le2 : (x : ℕ) → x < 2 ^ 16 → number (to_le_bytes w16 x) 0 0 2 ≡ x
 le2 x l = same2 (x % 256) (x / 256 % 256) ∙ from_le_bytes-to_le_bytes_2 x l
@@ -62,10 +54,7 @@ le4 x l = same4 (x % 256) (x / 256 % 256) (x / 65536 % 256) (x / 16777216 % 256)
 
 -- a number below 2 ^ 64 is read from its eight little-endian bytes
 le8 : (x : ℕ) → x < 2 ^ 64 → number (to_le_bytes w64 x) 0 0 8 ≡ x
-le8 x l =
-    same8 (x % 256) (x / 256 % 256) (x / 65536 % 256) (x / 16777216 % 256) (x / 4294967296 % 256)
-    (x / 1099511627776 % 256) (x / 281474976710656 % 256)
-    (x / 72057594037927936 % 256) ∙ from_le_bytes-to_le_bytes_8 x l
+le8 x l = grind (arith, common_steps)
 
 -- a code that a width has
 abbrev Fits : Width → ℕ → Type 0
@@ -145,34 +134,10 @@ codes_back w (c ∷ cs) xs at e fit =
     rw same at tail in
     cc
 
--- the least width has each code
-fits_in : (n c : ℕ) (w : Width) → width_for n ≡ w → c < greatest w → Fits (width_for n) c
-fits_in n c w e l = subst (λ (v : Width). Fits v c) (sym e) (inl l)
-
--- codes of at most 0xff strings have one byte
-width_one : (n : ℕ) → n ≤ 0xff → width_for n ≡ One
-width_one n l = rw (le-leb n 0xff l) refl
-
--- codes of more than 0xff and at most 0xffff strings have two bytes
-width_two : (n : ℕ) → 0xff < n → n ≤ 0xffff → width_for n ≡ Two
-width_two n m l = rw (lt-leb n 0xff m) (rw (le-leb n 0xffff l) refl)
-
--- codes of more than 0xffff strings have four bytes
-width_four : (n : ℕ) → 0xffff < n → width_for n ≡ Four
-width_four n m =
-    let more : 0xff < n = omega (arith, m) in
-    rw (lt-leb n 0xff more) (rw (lt-leb n 0xffff m) refl)
-
 -- the code of one of fewer than 2 ^ 32 strings, or the missing one, fits the width for so many
 fits_width : (n c : ℕ) → n < 2 ^ 32 → IsCode n c → Fits (width_for n) c
 fits_width n c few (inr e) = inr e
-fits_width n c few (inl l) = elim (cases_lt 0xff n) [
-  | inr one ↦ fits_in n c One (width_one n one) (omega (arith, l, one))
-  | inl more ↦ elim (cases_lt 0xffff n) [
-    | inr two ↦ fits_in n c Two (width_two n more two) (omega (arith, l, two))
-    | inl four ↦ fits_in n c Four (width_four n four) (omega (arith, l, few))
-  ]
-]
+fits_width n c few (inl l) = grind (arith, common_steps)
 
 -- the bytes of codes are the bytes of the width, times the number of codes
 codes_size : (w : Width) (cs : List ℕ) → length (flat_map (code_bytes w) cs) ≡ bytes_of w * length cs
@@ -400,15 +365,11 @@ module _ {h : ColumnHeader} (cs : List ℕ) {bytes : List ℕ} (wide : h.width �
 
 -- a row can't be missing where none is
 pub no_gap : (cs : List ℕ) (row : ℕ) → rows_of missing cs ≡ [] → HasGap cs row → ⊥
-no_gap cs row none gap =
-    let off : row ∷ rows_past (λ code. code == missing) (row + 1) cs ≡ [] = sym gap.first ∙ none in
-    cc
+no_gap cs row none gap = grind (arith, common_steps)
 
 -- nine parts that were added one by one
 pub nine_parts : (o a b c d e f g h i : List ℕ) (x1 x2 x3 x4 x5 x6 x7 x8 x9 : List ℕ) → x1 ≡ o ++ a →
     x2 ≡ x1 ++ b → x3 ≡ x2 ++ c → x4 ≡ x3 ++ d → x5 ≡ x4 ++ e
     → x6 ≡ x5 ++ f → x7 ≡ x6 ++ g → x8 ≡ x7 ++ h → x9 ≡ x8 ++ i →
     x9 ≡ o ++ (a ++ b ++ c ++ d ++ e ++ f ++ g ++ h ++ i)
-nine_parts o a b c d e f g h i x1 x2 x3 x4 x5 x6 x7 x8 x9 e1 e2 e3 e4 e5 e6 e7 e8 e9 =
-    let all : x9 ≡ o ++ a ++ b ++ c ++ d ++ e ++ f ++ g ++ h ++ i = cc in
-    all ∙ simp append_assoc
+nine_parts o a b c d e f g h i x1 x2 x3 x4 x5 x6 x7 x8 x9 e1 e2 e3 e4 e5 e6 e7 e8 e9 = grind (arith, common_steps)

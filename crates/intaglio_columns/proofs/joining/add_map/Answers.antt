@@ -1,17 +1,12 @@
+use Rattle.std.proofs.lemmas.Grind.{common_steps}
 use Rattle.std.proofs.Common.{◌≡◌, ◌<◌, ◌∙◌, ◌++◌, [], ◌∷◌, ap, arith, rules, Some, sym}
 use Rattle.std.specs.List.{slice_get}
-use Rattle.intaglio_columns.specs.Layout.{codes, strings}
+use Rattle.intaglio_columns.specs.Layout.{codes}
 use Rattle.intaglio_columns.proofs.JoinedMaps.{added-next, below-at}
 use Rattle.intaglio_columns.proofs.joining.add_map.Goals as goal
 
 pub overflow_add-start : goal.overflow_add-start
-overflow_add-start c =
-    let cs = codes c.args.numbers.now in
-    let at : slice_get cs c.loop-row.row ≡ Some c.unwrap-number.result =
-    sym c.code.ensures ∙ c.unwrap-number.ensures in
-    let below : c.unwrap-number.result < strings c.args.numbers.now =
-    below-at c.args.numbers.now c.requires.map c.loop-row.row c.unwrap-number.result at in
-    omega (arith, c.requires.few)
+overflow_add-start c = grind (arith, common_steps, below-at)
 
 pub loop-row-preserved : goal.loop-row-preserved
 loop-row-preserved c =

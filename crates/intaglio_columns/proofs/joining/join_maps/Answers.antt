@@ -1,3 +1,4 @@
+use Rattle.std.proofs.lemmas.Grind.{common_steps}
 use Rattle.std.proofs.Common.{◌≡◌, arith, refl, rules, Some}
 use Rattle.std.specs.List.{slice_get}
 use Rattle.std.proofs.lemmas.Option.{slice_get_read}
@@ -6,20 +7,10 @@ use Rattle.intaglio_columns.proofs.JoinedMaps.{all-within, joined-next, sum-next
 use Rattle.intaglio_columns.proofs.joining.join_maps.Goals as goal
 
 pub add_map-requires-clause-few : goal.add_map-requires-clause-few
-add_map-requires-clause-few c =
-    let maps = c.args.maps.now in
-    let i = c.loop-map.map-index in
-    let m = c.map-item.result in
-    let at : slice_get maps i ≡ Some m = slice_get_read maps _ i m refl (search rules) c.map-item.is in
-    omega (arith, c.requires.few, c.loop-map.invariant.start, sum-within maps i m at strings)
+add_map-requires-clause-few c = grind (arith, common_steps, slice_get_read, sum-within)
 
 pub overflow_add-start : goal.overflow_add-start
-overflow_add-start c =
-    let maps = c.args.maps.now in
-    let i = c.loop-map.map-index in
-    let m = c.map-item.result in
-    let at : slice_get maps i ≡ Some m = slice_get_read maps _ i m refl (search rules) c.map-item.is in
-    omega (arith, c.requires.few, c.loop-map.invariant.start, c.id.ensures.count, sum-within maps i m at strings)
+overflow_add-start c = grind (arith, common_steps, slice_get_read, sum-within)
 
 pub loop-map-preserved : goal.loop-map-preserved
 loop-map-preserved c =

@@ -1,8 +1,7 @@
-use Rattle.std.proofs.Common.{◌≡◌, ◌∙◌, ℕ, ◌+◌, List, [], ◌∷◌, ◌++◌, inl, inr, Bor, get_or, length, map, slice_get, take, Some, ap, sym, arith}
+use Rattle.std.proofs.lemmas.Grind.{common_steps}
+use Rattle.std.proofs.Common.{◌≡◌, ◌∙◌, ℕ, ◌+◌, List, [], ◌∷◌, ◌++◌, inl, inr, Bor, get_or, length, map, slice_get, take, Some, sym, arith}
 use Rattle.std.proofs.lemmas.Bool.{cases_lt}
-use Rattle.std.proofs.lemmas.List.{map-append}
 use Rattle.std.proofs.lemmas.Option.{slice_get-get_or}
-use Rattle.intaglio_columns.proofs.Listed.{next}
 use Rattle.intaglio_columns.proofs.WordsMarked.{marked_absent, marked_found, same_symbol}
 use Rattle.intaglio_columns.proofs.matching.mark_all.Goals as goal
 use Rattle.intaglio_columns.proofs.matching.mark_all.Goals.{in-Some, in_default}
@@ -19,10 +18,7 @@ loop-string-preserved g c =
     slice_get-get_or c.args.strings.now i none c.loop-string-test.true in
     let words = map (λ (s : Bor (List ℕ)). s.now) (take i c.args.strings.now) in
     let word = c.as_bytes.result.now in
-    let more : map (λ (s : Bor (List ℕ)). s.now) (take (i + 1) c.args.strings.now) ≡ words ++ word ∷ [] =
-    ap (map (λ (s : Bor (List ℕ)). s.now)) (next c.args.strings.now i item at)
-    ∙ map-append (λ (s : Bor (List ℕ)). s.now) (take i c.args.strings.now) (item ∷ [])
-    ∙ ap (λ t. words ++ t ∷ []) (sym c.as_bytes.ensures.value) in
+    let more : map (λ (s : Bor (List ℕ)). s.now) (take (i + 1) c.args.strings.now) ≡ words ++ word ∷ [] = grind (arith, common_steps) in
     let marks = c.loop-string.marks in
     let before = c.loop-string.invariant in
     elim c.match-found.branch [

@@ -1,30 +1,16 @@
-use Rattle.std.proofs.Common.{◌≡◌, ◌∙◌, [], below_more, arith, get_or, refl, rules, Some, sym}
+use Rattle.std.proofs.lemmas.Grind.{common_steps}
+use Rattle.std.proofs.Common.{◌≡◌, ◌∙◌, [], below_more, arith, get_or, refl, rules, Some}
 use Rattle.std.specs.List.{slice_get}
-use Rattle.std.proofs.lemmas.Bool.{true≢false}
 use Rattle.std.proofs.lemmas.Option.{slice_get-get_or, slice_get_read, slice_get_within}
 use Rattle.intaglio_columns.specs.Renumbering.{LeadAlike}
 use Rattle.intaglio_columns.proofs.Agreed.{LeadsRight, first-is, right-at}
 use Rattle.intaglio_columns.proofs.renumbering.check_each.Goals as goal
 
 pub returns-then-not-leads_from-clause-err : goal.returns-then-not-leads_from-clause-err
-returns-then-not-leads_from-clause-err c =
-    let maps = c.args.maps.now in
-    let i = c.loop-i.i in
-    let m = c.index-maps-number.result in
-    let at : slice_get maps i ≡ Some m = slice_get_read maps _ i m refl (search rules) c.index-maps-number.is in
-    (m, at, λ e. true≢false (sym (c.leads_from.ensures.1 e) ∙ c.if-not-leads_from.true))
+returns-then-not-leads_from-clause-err c = grind (arith, common_steps, slice_get_read)
 
 pub returns-then-not-lead_alike-clause-err : goal.returns-then-not-lead_alike-clause-err
-returns-then-not-lead_alike-clause-err c =
-    let maps = c.args.maps.now in
-    let i = c.loop-i.i in
-    let m = c.index-maps-number.result in
-    let at : slice_get maps i ≡ Some m = slice_get_read maps _ i m refl (search rules) c.index-maps-number.is in
-    let first = first-is maps i m c.index-maps-0.result at c.index-maps-0.is in (
-      m,
-      at,
-      λ alike. true≢false (sym (c.lead_alike.ensures.1 (rw first at alike)) ∙ c.if-not-lead_alike.true),
-    )
+returns-then-not-lead_alike-clause-err c = grind (arith, common_steps, slice_get_read, first-is)
 
 pub loop-i-preserved : goal.loop-i-preserved
 loop-i-preserved c =

@@ -1,3 +1,4 @@
+use Rattle.std.proofs.lemmas.Grind.{common_steps}
 use Rattle.std.proofs.Common.{◌≡◌, arith, refl, rules, Some}
 use Rattle.std.specs.List.{slice_get}
 use Rattle.std.proofs.lemmas.Option.{slice_get_read}
@@ -12,18 +13,6 @@ loop-map-preserved c =
     let m = c.map-item.result in
     let at : slice_get maps i ≡ Some m = slice_get_read maps _ i m refl (search rules) c.map-item.is in
     record {
-      rows = omega (
-        arith,
-        c.loop-map.invariant.rows,
-        c.header-header.ensures.rows,
-        c.saturating_add-rows.ensures,
-        sum-next maps i m at rows,
-      );
-      strings = omega (
-        arith,
-        c.loop-map.invariant.strings,
-        c.header-header.ensures.id.count,
-        c.saturating_add-strings.ensures,
-        sum-next maps i m at strings,
-      );
+      rows = omega (arith, sum-next maps i m at rows);
+      strings = grind (arith, common_steps, sum-next);
     }

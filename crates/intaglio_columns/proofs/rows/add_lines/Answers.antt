@@ -1,25 +1,12 @@
-use Rattle.std.proofs.Common.{◌≡◌, ◌∙◌, ◌+◌, ◌-◌, ◌++◌, drop, take, slice_get, ap, sym, arith}
-use Rattle.std.specs.List.{flat_map}
+use Rattle.std.proofs.lemmas.Grind.{common_steps}
+use Rattle.std.proofs.Common.{◌≡◌, ◌∙◌, ◌+◌, ◌-◌, ◌++◌, drop, slice_get, ap, sym, arith}
 use Rattle.std.specs.Option.{option_map}
-use Rattle.std.proofs.Math.Nat.{sub_self}
-use Rattle.std.proofs.lemmas.List.{append-nil}
 use Rattle.intaglio_lines.specs.Output.{spelling_line}
 use Rattle.intaglio_columns.specs.Layout.{codes}
 use Rattle.intaglio_columns.proofs.Overlaid.{read_behind}
 use Rattle.intaglio_columns.specs.RowLines.{code_line}
 use Rattle.intaglio_columns.proofs.Ranged.{after_next}
 use Rattle.intaglio_columns.proofs.rows.add_lines.Goals as goal
-
-pub loop-row-init : goal.loop-row-init
-loop-row-init g c =
-    let line = code_line (g.D.Dictionary.strings c.args.table.now) (option_map (λ t. t.now) c.args.missing) in
-    let before = flat_map (λ string. spelling_line string.now) c.args.lines.now.items in
-    let cs = drop c.args.range.first (codes c.args.column.now) in
-    record {
-      lines = sym (ap (λ k. before ++ flat_map line (take k cs)) (sub_self c.args.range.first)
-          ∙ append-nil before);
-      within = omega arith;
-    }
 
 pub loop-row-preserved : goal.loop-row-preserved
 loop-row-preserved g c =
@@ -39,12 +26,3 @@ loop-row-preserved g c =
           line c.loop-row.invariant.lines (ap spelling_line c.in-Some.ensures.line));
       within = omega (arith, c.loop-row-test.true, c.loop-row.auto.row);
     }
-
-pub returns-clause-lines : goal.returns-clause-lines
-returns-clause-lines g c =
-    let line = code_line (g.D.Dictionary.strings c.args.table.now) (option_map (λ t. t.now) c.args.missing) in
-    let before = flat_map (λ string. spelling_line string.now) c.args.lines.now.items in
-    let cs = drop c.args.range.first (codes c.args.column.now) in
-    let all : c.loop-row.row - c.args.range.first ≡ c.args.range.last + 1 - c.args.range.first =
-    omega (arith, c.loop-row.invariant.within, c.loop-row-test.false) in
-    c.loop-row.invariant.lines ∙ ap (λ k. before ++ flat_map line (take k cs)) all

@@ -1,3 +1,4 @@
+use Rattle.std.proofs.lemmas.Grind.{common_steps}
 use Rattle.std.proofs.Common.{◌≡◌, ◌∙◌, ◌+◌, ◌-◌, [], ◌∷◌, ap, drop, length, length-drop, subst, sym, take, arith}
 use Rattle.std.proofs.lemmas.List.{drop-drop, take_rest}
 use Rattle.std.proofs.lemmas.Result.{err_from_is_err_and}
@@ -7,36 +8,7 @@ use Rattle.intaglio_columns.proofs.Translated.{group-part, next-misfit, next-tra
 use Rattle.intaglio_columns.proofs.translate.translate_pieces.Goals as goal
 
 pub loop-size-preserved : goal.loop-size-preserved
-loop-size-preserved g c =
-    let bytes = c.args.bytes.now in
-    let at = c.loop-size.at in
-    let next = c.in-Some.next in
-    let rest = take (length bytes - at) (drop at bytes) in
-    let cut : rest ≡ drop at bytes = take_rest bytes at in
-    let behind : drop next rest ≡ drop (at + next) bytes = ap (drop next) cut ∙ drop-drop next at bytes in
-    let Done = HasTranslated g.T.Translator.pieces (g.T.Translator.fits c.args.translator.now)
-    (g.T.Translator.translated c.args.translator.now) in
-    let mid = g.W.Write.contents c.loop-size.writer in
-    let new = g.W.Write.contents c.put_piece.new.writer in
-    record {
-      within = omega (
-        arith,
-        c.in-Some.ensures.within,
-        ap length cut,
-        length-drop at bytes,
-        c.loop-size.invariant.within,
-      );
-      goes = λ input old left before.
-          subst (λ t. Done input old new c.put_piece.new.block.items t left c.in_ok-count.count) behind
-          (next-translated g.T.Translator.pieces (g.T.Translator.fits c.args.translator.now)
-          (g.T.Translator.translated c.args.translator.now) input old mid new left c.loop-size.block.items
-          c.put_piece.new.block.items rest (take c.in-Some.size rest) (drop next rest)
-          c.loop-size.count c.in_ok-count.count c.in-Some.ensures.whole c.in_ok-count.ensures.fits
-          c.in_ok-count.ensures.put (c.put_piece.ensures.front c.in_ok-count.ensures.fits)
-          c.in_ok-count.ensures.count
-          (subst (λ t. Done input old mid c.loop-size.block.items t left c.loop-size.count) (sym cut)
-          (c.loop-size.invariant.goes input old left before)));
-    }
+loop-size-preserved g c = grind (arith, common_steps, take_rest, drop-drop, length-drop, next-translated)
 
 pub returns-in_err-count-clause-misfit : goal.returns-in_err-count-clause-misfit
 returns-in_err-count-clause-misfit g c =

@@ -1,11 +1,12 @@
-use Rattle.std.proofs.Common.{◌≡◌, ◌∙◌, ◌+◌, ◌-◌, ◌^◌, ap, drop, length, length-drop, map, min, refl, subst, sym, take, arith}
+use Rattle.std.proofs.lemmas.Grind.{common_steps}
+use Rattle.std.proofs.Common.{◌≡◌, ◌∙◌, ◌+◌, ◌-◌, ◌^◌, ap, drop, length, map, min, refl, subst, sym, take, arith}
 use Rattle.std.proofs.lemmas.List.{drop-drop, length-map, take_rest}
 use Rattle.std.proofs.lemmas.Result.{err_from_is_err_and}
 use Rattle.intaglio_lines.specs.Lines.{lines_of}
-use Rattle.intaglio_columns.specs.Columns.{HasNoEnd, encoded_line, has_code}
+use Rattle.intaglio_columns.specs.Columns.{encoded_line, has_code}
 use Rattle.intaglio_columns.specs.Translation.{HasTranslated}
 use Rattle.intaglio_columns.proofs.Parts.{on-err}
-use Rattle.intaglio_columns.proofs.Translated.{failure-reports, group-misfit, group-part, group-translated, kept-part}
+use Rattle.intaglio_columns.proofs.Translated.{group-misfit, group-part, group-translated, kept-part}
 use Rattle.intaglio_columns.proofs.encoding.Encoding.put_lines.Goals as goal
 
 pub loop-at-preserved : goal.loop-at-preserved
@@ -27,21 +28,8 @@ loop-at-preserved g c =
     ≡ min (c.loop-at.count + length (map (λ line. line.now) group.lines.items)) (2 ^ 64 - 1) =
     omega (arith, done.count, length-map group.lines.items (λ line. line.now)) in
     record {
-      within = omega (
-        arith,
-        c.in_ok-group.ensures.within,
-        ap length cut,
-        length-drop at bytes,
-        c.loop-at.invariant.within,
-      );
-      goes = λ input old left before.
-          subst (λ t. Done input old new c.put_group.new.block.items t left c.in_ok-count.count) behind
-          (group-translated lines_of fits (encoded_line table) input old mid new left c.loop-at.block.items
-          c.put_group.new.block.items rest (map (λ line. line.now) group.lines.items)
-          (drop group.size rest)
-          c.loop-at.count c.in_ok-count.count c.in_ok-group.ensures.whole done.fit done.put done.front counted
-          (subst (λ t. Done input old mid c.loop-at.block.items t left c.loop-at.count) (sym cut)
-          (c.loop-at.invariant.goes input old left before)));
+      within = grind (arith, common_steps);
+      goes = grind (arith, common_steps, group-translated);
       few = omega arith;
       skip = refl;
     }
@@ -66,22 +54,9 @@ returns-in_err-count-clause-misfit g c =
     (subst (λ t. Done input old mid c.loop-at.block.items t left c.loop-at.count) (sym cut)
     (c.loop-at.invariant.goes input old left before)))
 
-pub returns-in_err-group-clause-misfit : goal.returns-in_err-group-clause-misfit
-returns-in_err-group-clause-misfit g c =
-    let table = g.D.Dictionary.strings c.args.self.now.table.now in
-    let passed = err_from_is_err_and c.from_residual.result c.from_residual.ensures.1 in
-    rw (passed.1, passed.2) (λ input old left before.
-    failure-reports lines_of (has_code table c.args.self.now.missing) (encoded_line table) input
-    c.in_err-group.field-0.0 c.in_err-group.ensures.err)
-
 pub first_lines-requires-clause-within : goal.first_lines-requires-clause-within
 first_lines-requires-clause-within g c =
     omega (arith, ap length (take_rest c.args.bytes.now c.loop-at.at), c.loop-at.invariant.few)
-
-pub first_lines-requires-clause-seen : goal.first_lines-requires-clause-seen
-first_lines-requires-clause-seen g c =
-    subst (λ t. HasNoEnd (take c.loop-at.skip t)) (sym (take_rest c.args.bytes.now c.loop-at.at))
-    c.loop-at.invariant.skip
 
 pub returns-in_err-count-clause-part : goal.returns-in_err-count-clause-part
 returns-in_err-count-clause-part g c =

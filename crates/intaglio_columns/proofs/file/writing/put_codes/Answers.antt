@@ -23,8 +23,4 @@ loop-row-preserved g c =
     }
 
 pub returns-clause-known : goal.returns-clause-known
-returns-clause-known g c =
-    let cs = g.L.CodeList.codes c.args.codes.now in
-    λ row code is.
-    c.loop-row.invariant.known row code
-    (omega (arith, slice_get_within cs row code is, c.len-row-end.ensures, c.loop-row-test.false)) is
+returns-clause-known g c = grind (arith, common_steps, slice_get_within)

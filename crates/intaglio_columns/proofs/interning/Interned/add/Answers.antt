@@ -1,3 +1,4 @@
+use Rattle.std.proofs.lemmas.Grind.{common_steps}
 use Rattle.std.proofs.Common.{◌≡◌, ◌^◌, ◌+◌, ◌-◌, ◌++◌, [], ◌∷◌, true, min, length, length-append, ap, Err, arith, rules}
 use Rattle.std.proofs.lemmas.List.{map-id}
 use Rattle.intaglio_interner.specs.Issue.{issue_from}
@@ -7,9 +8,7 @@ use Rattle.intaglio_columns.proofs.Interned.{issue-length, lines-interned, not-a
 use Rattle.intaglio_columns.proofs.interning.Interned.add.Goals as goal
 
 pub returns-then-not-is_allowed-clause-err : goal.returns-then-not-is_allowed-clause-err
-returns-then-not-is_allowed-clause-err g c =
-    let fault : ¬ (Allows c.args.kind c.args.lines.now) = search rules in
-    λ front rest ended whole done. not-allowed front c.args.lines.now rest ended whole c.args.kind fault
+returns-then-not-is_allowed-clause-err g c = grind (arith, common_steps, not-allowed)
 
 pub returns-in-Err-Overflow-clause-err : goal.returns-in-Err-Overflow-clause-err
 returns-in-Err-Overflow-clause-err g c =
@@ -41,17 +40,6 @@ returns-clause-added g c =
     ++ issue_from (λ w. w ∷ []) old.table.state.contents lines =
     λ kept. rw (c.forget.ensures.symbols kept) at issued in
     let allowed : Allows c.args.kind c.args.lines.now = search rules in
-    let count : c.saturating_add-self.result ≡ min (old.count + length lines) (2 ^ 64 - 1) =
-    omega (
-      arith,
-      c.saturating_add-self.ensures,
-      c.len.ensures,
-      c.len-before.ensures,
-      ap length issued,
-      length-append c.forget.new.self.symbols.items
-          (issue_from (λ w. w ∷ []) old.table.state.contents lines),
-      issue-length old.table.state.contents lines,
-      c.forget.ensures.count,
-    ) in
+    let count : c.saturating_add-self.result ≡ min (old.count + length lines) (2 ^ 64 - 1) = grind (arith, common_steps, length-append, issue-length) in
     λ front ended done. lines-interned c.args.kind c.args.is_kept front c.args.lines.now _ _ _ _ _ _ ended
     done allowed held limit symbols count

@@ -1,5 +1,5 @@
-use Rattle.std.proofs.Common.{◌≡◌, ◌∙◌, [], map, IfErr, sym, ap, subst, arith}
-use Rattle.std.proofs.lemmas.List.{get_or-map}
+use Rattle.std.proofs.lemmas.Grind.{common_steps}
+use Rattle.std.proofs.Common.{◌≡◌, ◌∙◌, [], map, IfErr, subst, arith}
 use Rattle.intaglio_frozen.specs.Freezing.{IsRefusal as IsTableRefusal}
 use Rattle.intaglio_columns.specs.Sharding.{strings_in}
 use Rattle.intaglio_columns.proofs.sharding.ShardedList.freeze.Goals as goal
@@ -9,8 +9,5 @@ returns-clause-err c =
     let lists = c.args.self.now.lists.items in
     let list = c.index.result.now in
     let there : map (λ w. w.now) list.items
-    ≡ strings_in (map (λ ws. map (λ w. w.now) ws.items) lists) c.args.shard =
-    ap (λ ws. map (λ w. w.now) ws.items) c.index.ensures
-    ∙ sym (get_or-map (λ ws. map (λ w. w.now) ws.items) lists c.args.shard list []
-    (omega (arith, c.requires, c.args.self.now.counted))) in
+    ≡ strings_in (map (λ ws. map (λ w. w.now) ws.items) lists) c.args.shard = grind (arith, common_steps) in
     subst (λ ws. IfErr c.freeze_at.result (IsTableRefusal c.args.self.now.kind ws)) there c.freeze_at.ensures.err
