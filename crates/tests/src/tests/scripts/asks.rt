@@ -1,5 +1,5 @@
 //! Calls of a table by borrowed forms, and what borrows from it, whose results are text.
-use super::printed::{Shown, inserted_text, numbered, reply_text, spelled, symbols_text, word};
+use super::printed::{Shown, found_text, inserted_text, reply_text, spelled, symbols_text};
 use super::steps::walked;
 use crate::support::builders::HasherCount;
 use crate::support::kinds::{BStrKind, BytesKind, CStrKind, Host, OsStrKind, PathKind, StrKind};
@@ -34,11 +34,11 @@ pub enum Ask {
     /// `get`.
     Get(Symbol),
     /// Steps on the iterator of forms.
-    Forms,
+    Forms(&'static str),
     /// Steps on `iter`.
-    Pairs,
+    Pairs(&'static str),
     /// Steps on the iterator of the table itself.
-    Each,
+    Each(&'static str),
 }
 
 /// The table of owned contents of a kind.
@@ -51,14 +51,13 @@ pub type PackedTable<K, S> = TableOver<Packed<K>, S>;
 /// since the prover takes seconds wherever one of them is passed to a call of any table.
 pub trait OwnedKind: KindOwned {
     /// Whether contents are compared as paths.
-    const ARE_PATHS: bool;
+    const ARE_PATHS: bool = false;
 
     /// Makes the call, and returns its result as text.
     fn ask_owned<R: Host, S: HasherCount>(
         rt: &R,
         table: &mut OwnedTable<Self, S>,
         contents: &[ContentOf<Self>],
-        steps: &str,
         ask: Ask,
     ) -> String;
 }
@@ -70,112 +69,76 @@ pub trait PackedKind: KindOwned {
         rt: &R,
         table: &mut PackedTable<Self, S>,
         contents: &[ContentOf<Self>],
-        steps: &str,
         ask: Ask,
     ) -> String;
 }
 
 impl OwnedKind for StrKind {
-    const ARE_PATHS: bool = false;
-
     fn ask_owned<R: Host, S: HasherCount>(
         rt: &R,
         table: &mut OwnedTable<StrKind, S>,
         contents: &[ContentOf<StrKind>],
-        steps: &str,
         ask: Ask,
     ) -> String {
         match ask {
-            Ask::Forms => walked(rt, table.strings(), steps),
-            Ask::GetInterned => match table.get_interned(first(rt, contents).form()) {
-                None => word(rt, "none"),
-                Some((symbol, form)) => numbered(rt, symbol, form.shown()),
-            },
-            _ => answer(rt, table, contents, steps, ask),
+            Ask::Forms(steps) => walked(rt, table.strings(), steps),
+            _ => answer(rt, table, contents, ask),
         }
     }
 }
 
 impl OwnedKind for OsStrKind {
-    const ARE_PATHS: bool = false;
-
     fn ask_owned<R: Host, S: HasherCount>(
         rt: &R,
         table: &mut OwnedTable<OsStrKind, S>,
         contents: &[ContentOf<OsStrKind>],
-        steps: &str,
         ask: Ask,
     ) -> String {
         match ask {
-            Ask::Forms => walked(rt, table.os_strings(), steps),
-            Ask::GetInterned => match table.get_interned(first(rt, contents).form()) {
-                None => word(rt, "none"),
-                Some((symbol, form)) => numbered(rt, symbol, form.shown()),
-            },
-            _ => answer(rt, table, contents, steps, ask),
+            Ask::Forms(steps) => walked(rt, table.os_strings(), steps),
+            _ => answer(rt, table, contents, ask),
         }
     }
 }
 
 impl OwnedKind for BytesKind {
-    const ARE_PATHS: bool = false;
-
     fn ask_owned<R: Host, S: HasherCount>(
         rt: &R,
         table: &mut OwnedTable<BytesKind, S>,
         contents: &[ContentOf<BytesKind>],
-        steps: &str,
         ask: Ask,
     ) -> String {
         match ask {
-            Ask::Forms => walked(rt, table.bytestrings(), steps),
-            Ask::GetInterned => match table.get_interned(first(rt, contents).form()) {
-                None => word(rt, "none"),
-                Some((symbol, form)) => numbered(rt, symbol, form.shown()),
-            },
-            _ => answer(rt, table, contents, steps, ask),
+            Ask::Forms(steps) => walked(rt, table.bytestrings(), steps),
+            _ => answer(rt, table, contents, ask),
         }
     }
 }
 
 impl OwnedKind for BStrKind {
-    const ARE_PATHS: bool = false;
-
     fn ask_owned<R: Host, S: HasherCount>(
         rt: &R,
         table: &mut OwnedTable<BStrKind, S>,
         contents: &[ContentOf<BStrKind>],
-        steps: &str,
         ask: Ask,
     ) -> String {
         match ask {
-            Ask::Forms => walked(rt, table.bstrings(), steps),
-            Ask::GetInterned => match table.get_interned(first(rt, contents).form()) {
-                None => word(rt, "none"),
-                Some((symbol, form)) => numbered(rt, symbol, form.shown()),
-            },
-            _ => answer(rt, table, contents, steps, ask),
+            Ask::Forms(steps) => walked(rt, table.bstrings(), steps),
+            _ => answer(rt, table, contents, ask),
         }
     }
 }
 
 impl OwnedKind for CStrKind {
-    const ARE_PATHS: bool = false;
-
     fn ask_owned<R: Host, S: HasherCount>(
         rt: &R,
         table: &mut OwnedTable<CStrKind, S>,
         contents: &[ContentOf<CStrKind>],
-        steps: &str,
         ask: Ask,
     ) -> String {
         match ask {
-            Ask::Forms => walked(rt, table.c_strings(), steps),
-            Ask::GetInterned => match table.get_interned(first(rt, contents).form()) {
-                None => word(rt, "none"),
-                Some((symbol, form)) => numbered(rt, symbol, form.shown()),
-            },
-            _ => answer(rt, table, contents, steps, ask),
+            Ask::Forms(steps) => walked(rt, table.c_strings(), steps),
+            _ => answer(rt, table, contents, ask),
         }
     }
 }
@@ -187,16 +150,11 @@ impl OwnedKind for PathKind {
         rt: &R,
         table: &mut OwnedTable<PathKind, S>,
         contents: &[ContentOf<PathKind>],
-        steps: &str,
         ask: Ask,
     ) -> String {
         match ask {
-            Ask::Forms => walked(rt, table.paths(), steps),
-            Ask::GetInterned => match table.get_interned(first(rt, contents).form()) {
-                None => word(rt, "none"),
-                Some((symbol, form)) => numbered(rt, symbol, form.shown()),
-            },
-            _ => answer(rt, table, contents, steps, ask),
+            Ask::Forms(steps) => walked(rt, table.paths(), steps),
+            _ => answer(rt, table, contents, ask),
         }
     }
 }
@@ -206,16 +164,11 @@ impl PackedKind for StrKind {
         rt: &R,
         table: &mut PackedTable<StrKind, S>,
         contents: &[ContentOf<StrKind>],
-        steps: &str,
         ask: Ask,
     ) -> String {
         match ask {
-            Ask::Forms => walked(rt, table.strings(), steps),
-            Ask::GetInterned => match table.get_interned(first(rt, contents).form()) {
-                None => word(rt, "none"),
-                Some((symbol, form)) => numbered(rt, symbol, form.shown()),
-            },
-            _ => answer(rt, table, contents, steps, ask),
+            Ask::Forms(steps) => walked(rt, table.strings(), steps),
+            _ => answer(rt, table, contents, ask),
         }
     }
 }
@@ -225,16 +178,11 @@ impl PackedKind for OsStrKind {
         rt: &R,
         table: &mut PackedTable<OsStrKind, S>,
         contents: &[ContentOf<OsStrKind>],
-        steps: &str,
         ask: Ask,
     ) -> String {
         match ask {
-            Ask::Forms => walked(rt, table.os_strings(), steps),
-            Ask::GetInterned => match table.get_interned(first(rt, contents).form()) {
-                None => word(rt, "none"),
-                Some((symbol, form)) => numbered(rt, symbol, form.shown()),
-            },
-            _ => answer(rt, table, contents, steps, ask),
+            Ask::Forms(steps) => walked(rt, table.os_strings(), steps),
+            _ => answer(rt, table, contents, ask),
         }
     }
 }
@@ -244,16 +192,11 @@ impl PackedKind for BytesKind {
         rt: &R,
         table: &mut PackedTable<BytesKind, S>,
         contents: &[ContentOf<BytesKind>],
-        steps: &str,
         ask: Ask,
     ) -> String {
         match ask {
-            Ask::Forms => walked(rt, table.bytestrings(), steps),
-            Ask::GetInterned => match table.get_interned(first(rt, contents).form()) {
-                None => word(rt, "none"),
-                Some((symbol, form)) => numbered(rt, symbol, form.shown()),
-            },
-            _ => answer(rt, table, contents, steps, ask),
+            Ask::Forms(steps) => walked(rt, table.bytestrings(), steps),
+            _ => answer(rt, table, contents, ask),
         }
     }
 }
@@ -263,16 +206,11 @@ impl PackedKind for BStrKind {
         rt: &R,
         table: &mut PackedTable<BStrKind, S>,
         contents: &[ContentOf<BStrKind>],
-        steps: &str,
         ask: Ask,
     ) -> String {
         match ask {
-            Ask::Forms => walked(rt, table.bstrings(), steps),
-            Ask::GetInterned => match table.get_interned(first(rt, contents).form()) {
-                None => word(rt, "none"),
-                Some((symbol, form)) => numbered(rt, symbol, form.shown()),
-            },
-            _ => answer(rt, table, contents, steps, ask),
+            Ask::Forms(steps) => walked(rt, table.bstrings(), steps),
+            _ => answer(rt, table, contents, ask),
         }
     }
 }
@@ -282,22 +220,13 @@ impl PackedKind for PathKind {
         rt: &R,
         table: &mut PackedTable<PathKind, S>,
         contents: &[ContentOf<PathKind>],
-        steps: &str,
         ask: Ask,
     ) -> String {
         match ask {
-            Ask::Forms => walked(rt, table.paths(), steps),
-            Ask::GetInterned => match table.get_interned(first(rt, contents).form()) {
-                None => word(rt, "none"),
-                Some((symbol, form)) => numbered(rt, symbol, form.shown()),
-            },
-            _ => answer(rt, table, contents, steps, ask),
+            Ask::Forms(steps) => walked(rt, table.paths(), steps),
+            _ => answer(rt, table, contents, ask),
         }
     }
-}
-
-fn first<'a, C>(rt: &impl Host, contents: &'a [C]) -> &'a C {
-    contents.first().expect(rt, "no content")
 }
 
 // What any table returns for a call by the forms of these.
@@ -305,7 +234,6 @@ fn answer<'a, L: Lends<'a> + LookedUpIn<'a> + Indexed, K, S: HasherCount>(
     rt: &impl Host,
     table: &'a mut TableOver<L, S>,
     contents: &'a [ContentOf<K>],
-    steps: &str,
     ask: Ask,
 ) -> String
 where
@@ -325,8 +253,11 @@ where
             symbols_text(rt, symbols)
         }
         Ask::CheckAll => checked_text(rt, &table.check_all(&forms).expect(rt, "memory")),
-        Ask::Pairs => walked(rt, table.iter(), steps),
-        Ask::Each => walked(rt, (&*table).into_iter(), steps),
+        Ask::Pairs(steps) => walked(rt, table.iter(), steps),
+        Ask::Each(steps) => walked(rt, (&*table).into_iter(), steps),
+        Ask::GetInterned => {
+            found_text(rt, table.get_interned(forms.pop().expect(rt, "no form")))
+        }
         Ask::InsertFull => inserted_text(rt, table.insert_full(forms.pop().expect(rt, "no form"))),
         _ => reply_text(
             rt,

@@ -95,27 +95,32 @@ pub fn way(rt: &impl Host, line: Line) -> Option<Result<Make, Counted>> {
     }
 }
 
-/// The call that makes the first table, the calls on this one, and the rest.
-pub fn split_part<'l>(rt: &impl Host, lines: &'l [Line]) -> Option<(Line, &'l [Line], &'l [Line])> {
-    let (first, after) = lines.split_first()?;
-    for i in 0..after.len() {
-        if way(rt, after[i]).is_some() {
-            return Some((*first, &after[..i], &after[i..]));
+/// The calls on one table, and the one that makes it.
+#[derive(Drop)]
+pub struct Part {
+    pub first: Line,
+    pub calls: Vec<Line>,
+}
+
+/// The calls of a script, by tables.
+pub fn parts_of(rt: &impl Host, script: &'static str) -> Vec<Part> {
+    let mut parts: Vec<Part> = Vec::new(rt.alloc());
+    for first in lines_of(rt, script) {
+        match parts.last_mut() {
+            Some(part) if way(rt, first).is_none() => part.calls.push(first).expect(rt, "memory"),
+            _ => {
+                let calls = Vec::new(rt.alloc());
+                parts.push(Part { first, calls }).expect(rt, "memory");
+            }
         }
     }
-    Some((*first, after, &[]))
+    parts
 }
 
 /// Makes the calls of a script.
 pub fn plays<T: Makes>(rt: &impl Host, script: &'static str) {
-    let lines = lines_of(rt, script);
-    let mut rest = lines.as_slice();
-    for _ in 0..lines.len() {
-        let Some((first, calls, others)) = split_part(rt, rest) else {
-            return;
-        };
-        plays_part::<T>(rt, first, calls);
-        rest = others;
+    for part in parts_of(rt, script) {
+        plays_part::<T>(rt, part.first, &part.calls);
     }
 }
 
@@ -224,18 +229,18 @@ fn batch<T: Table>(rt: &impl Host, table: &mut T, line: Line) -> String {
         "symbols" => walked(rt, table.symbols(), line.word),
         "intern_all" => symbols_text(rt, table.put_all(rt.alloc(), words)),
         "intaglio::intern_all" => symbols_text(rt, table.put_counted(rt.alloc(), words)),
-        _ => match batch_ask(line.name) {
-            Some(ask) => table.ask(rt, &words, line.word, ask),
+        _ => match batch_ask(line) {
+            Some(ask) => table.ask(rt, &words, ask),
             None => word(rt, "no such call"),
         },
     }
 }
 
-fn batch_ask(name: &str) -> Option<Ask> {
-    match name {
-        "forms" => Some(Ask::Forms),
-        "pairs" => Some(Ask::Pairs),
-        "each" => Some(Ask::Each),
+fn batch_ask(line: Line) -> Option<Ask> {
+    match line.name {
+        "forms" => Some(Ask::Forms(line.word)),
+        "pairs" => Some(Ask::Pairs(line.word)),
+        "each" => Some(Ask::Each(line.word)),
         "get_or_intern_all" => Some(Ask::GetOrInternAll),
         "intaglio::get_or_intern_all" => Some(Ask::CountedAll),
         "check_all" => Some(Ask::CheckAll),

@@ -1,5 +1,5 @@
 //! Steps on iterators, by their names.
-use super::printed::{Shown, number, numbered, text, word};
+use super::printed::{Shown, found_text, number, text, word};
 use crate::support::kinds::Host;
 use intaglio::{AllSymbols, Content, Forms, Lends, Pairs, Symbol};
 
@@ -76,10 +76,7 @@ where
 {
     fn step<R: Host>(&mut self, rt: &R, name: &str) -> String {
         match name {
-            "next" => match self.next() {
-                Some((symbol, form)) => numbered(rt, symbol, form.shown()),
-                None => word(rt, "none"),
-            },
+            "next" => found_text(rt, self.next()),
             "count" => {
                 let mut count: usize = 0;
                 for _ in self.clone().expect(rt, "memory") {

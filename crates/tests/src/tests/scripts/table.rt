@@ -27,7 +27,7 @@ pub struct Counts {
 /// A table, by its own calls.
 pub trait Table: TestTable {
     /// Makes a call by the borrowed forms of contents, or these steps.
-    fn ask<R: Host>(&mut self, rt: &R, contents: &[Self::Item], steps: &str, ask: Ask) -> String;
+    fn ask<R: Host>(&mut self, rt: &R, contents: &[Self::Item], ask: Ask) -> String;
 
     /// Gets the numbers.
     fn counts(&self) -> Counts;
@@ -66,8 +66,8 @@ fn counts_of<L: Indexed, S: HasherCount>(table: &TableOver<L, S>) -> Counts {
 }
 
 impl<K: TestKind + OwnedKind, S: HasherCount> Table for OwnedTable<K, S> {
-    fn ask<R: Host>(&mut self, rt: &R, contents: &[ContentOf<K>], steps: &str, ask: Ask) -> String {
-        K::ask_owned(rt, self, contents, steps, ask)
+    fn ask<R: Host>(&mut self, rt: &R, contents: &[ContentOf<K>], ask: Ask) -> String {
+        K::ask_owned(rt, self, contents, ask)
     }
 
     fn counts(&self) -> Counts {
@@ -94,8 +94,8 @@ impl<K: TestKind + OwnedKind> Makes for OwnedTable<K, Fold> {
 }
 
 impl<K: TestKind + OwnedKind + PackedKind, S: HasherCount> Table for PackedTable<K, S> {
-    fn ask<R: Host>(&mut self, rt: &R, contents: &[ContentOf<K>], steps: &str, ask: Ask) -> String {
-        K::ask_packed(rt, self, contents, steps, ask)
+    fn ask<R: Host>(&mut self, rt: &R, contents: &[ContentOf<K>], ask: Ask) -> String {
+        K::ask_packed(rt, self, contents, ask)
     }
 
     fn counts(&self) -> Counts {
