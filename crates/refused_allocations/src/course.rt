@@ -4,10 +4,7 @@ use crate::fault::{Fault, Told, tell};
 use crate::results::{are_found, are_numbered, c_string, is_place, is_refused, opens};
 use crate::runs::{Calls, Run};
 use crate::words::{COUNT, forms_of, spelling};
-use intaglio::{
-    BaseInterner, Content, LookedUpIn, Reply, RoomError, SoughtIn, SpelledStore, TableError,
-    TableOver,
-};
+use intaglio::{BaseInterner, LookedUpIn, Reply, RoomError, SpelledStore, TableError, TableOver};
 use std::alloc::{AllocError, Global};
 use std::marker::PhantomData;
 use tests::support::builders::{Counted, HasherCount};
@@ -53,14 +50,9 @@ impl<F: OfEnded, C: TestContent> Given<F, C> {
 
 /// A table with its list, and what was printed so far.
 #[derive(Drop)]
-pub struct Course<'q, L: TestStore + LookedUpIn<'q>, S: HasherCount>
-where
-    L::Content: Content + SoughtIn<L> + Drop,
-    L::Prepared: Drop,
-    TableOver<L, S>: TestTable,
-{
+pub struct Course<'q, L: TestStore + LookedUpIn<'q>, S: HasherCount> {
     table: TableOver<L, S>,
-    given: Given<L::By, <TableOver<L, S> as TestTable>::Item>,
+    given: Given<L::By, L::Item>,
     lifetime: PhantomData<&'q ()>,
     by_run: bool,
     // how many words the table holds
@@ -73,15 +65,10 @@ where
 
 /// Makes a run on a new table, and returns the table. Requests for memory before the first printed call
 /// aren't the table's.
-pub fn left_by<'q, L: TestStore + SpelledStore + LookedUpIn<'q, By: OfEnded>>(
+pub fn left_by<'q, L: TestStore + LookedUpIn<'q, By: OfEnded>>(
     rt: &impl Told,
     run: Run<'_>,
-) -> Result<TableOver<L, L::Hasher>, Fault>
-where
-    L::Content: Content + SoughtIn<L> + Drop,
-    L::Prepared: Drop,
-    TableOver<L, L::Hasher>: TestTable,
-{
+) -> Result<TableOver<L, L::Hasher>, Fault> {
     let given = Given::make(rt.alloc(), run.3)?;
     tell(rt, "table", 0);
     let made = L::make(rt.alloc(), run.1);
@@ -89,31 +76,21 @@ where
 }
 
 /// Makes a run under equal hashes.
-pub fn watch_equal<'q, L: TestStore + SpelledStore + LookedUpIn<'q, By: OfEnded>>(
+pub fn watch_equal<'q, L: TestStore + LookedUpIn<'q, By: OfEnded>>(
     rt: &impl Told,
     run: Run<'_>,
-) -> Result<(), Fault>
-where
-    L::Content: Content + SoughtIn<L> + Drop,
-    L::Prepared: Drop,
-    TableOver<L, Counted>: TestTable,
-{
+) -> Result<(), Fault> {
     let given = Given::make(rt.alloc(), run.3)?;
     tell(rt, "table", 0);
-    let made = TableOver::with_hasher(rt.alloc(), Counted::new(Some(7)));
+    let made = TableOver::<L, _>::with_hasher(rt.alloc(), Counted::new(Some(7)));
     let _table = Course::new(made, given, run.2)?.play(rt, run.3)?;
     Ok(())
 }
 
-impl<'q, L: TestStore + SpelledStore + LookedUpIn<'q, By: OfEnded>, S: HasherCount> Course<'q, L, S>
-where
-    L::Content: Content + SoughtIn<L> + Drop,
-    L::Prepared: Drop,
-    TableOver<L, S>: TestTable,
-{
+impl<'q, L: TestStore + LookedUpIn<'q, By: OfEnded>, S: HasherCount> Course<'q, L, S> {
     fn new(
         made: Result<TableOver<L, S>, RoomError>,
-        given: Given<L::By, <TableOver<L, S> as TestTable>::Item>,
+        given: Given<L::By, L::Item>,
         by_run: bool,
     ) -> Result<Course<'q, L, S>, Fault> {
         Ok(Course {
@@ -176,7 +153,7 @@ where
         rt: &impl Told,
         ask: Ask,
         turn: usize,
-        contents: Option<Vec<<TableOver<L, S> as TestTable>::Item>>,
+        contents: Option<Vec<L::Item>>,
     ) -> Result<bool, TableError> {
         self.calls = self.calls.saturating_add(1);
         self.fault = Fault::Answer(self.calls);
@@ -210,7 +187,7 @@ where
         alloc: Global,
         ask: Ask,
         turn: usize,
-        contents: Option<Vec<<TableOver<L, S> as TestTable>::Item>>,
+        contents: Option<Vec<L::Item>>,
     ) -> Result<bool, TableError> {
         let mut calls = Vec::with_capacity(alloc, 1)?;
         let Some(call) = ask.call(contents.and_then(|mut one| one.pop())) else {
@@ -234,10 +211,10 @@ where
         &mut self,
         alloc: Global,
         ask: Ask,
-        contents: Option<Vec<<TableOver<L, S> as TestTable>::Item>>,
+        contents: Option<Vec<L::Item>>,
     ) -> Result<bool, TableError> {
         if let Some(contents) = contents {
-            return self.took(alloc, ask, contents);
+            return self.took(ask, contents);
         }
         match ask {
             Ask::Make(how, capacity) => {
@@ -257,21 +234,16 @@ where
                 Reply::NoMemory => Err(TableError::from(AllocError)),
                 reply => Ok(reply == Reply::Done),
             },
-            Ask::Freeze => opens(self.table.freeze(alloc), self.held),
+            Ask::Freeze => opens(L::freeze(alloc, &self.table), self.held),
             Ask::CString => c_string(alloc),
             _ => self.took_forms(alloc, ask),
         }
     }
 
     // The same of a call that takes contents.
-    fn took(
-        &mut self,
-        alloc: Global,
-        ask: Ask,
-        mut contents: Vec<<TableOver<L, S> as TestTable>::Item>,
-    ) -> Result<bool, TableError> {
+    fn took(&mut self, ask: Ask, mut contents: Vec<L::Item>) -> Result<bool, TableError> {
         if let Ask::InternAll(count) = ask {
-            let symbols = self.table.put_all(alloc, contents)?;
+            let symbols = self.table.put_all(contents)?;
             return Ok(are_numbered(&symbols, count));
         }
         let wanted = match ask {

@@ -1,13 +1,14 @@
 //! Calls of a table by borrowed forms, and what borrows from it, whose results are text.
 use super::printed::{Shown, found_text, inserted_text, reply_text, spelled, symbols_text};
 use super::steps::walked;
+use super::table::Table;
 use crate::support::builders::HasherCount;
 use crate::support::kinds::{BStrKind, BytesKind, CStrKind, Host, OsStrKind, PathKind, StrKind};
 use crate::support::replies::interned;
+use crate::support::tables::TestStore;
 use intaglio::packed::Packed;
 use intaglio::{
-    Content, ContentOf, Indexed, KindForm, KindOwned, Lends, LookedUpIn, Reply, SoughtIn, Symbol,
-    Table, TableOver, Work, get_or_intern_all,
+    ContentOf, KindForm, Lends, LookedUpIn, Reply, Symbol, TableOver, Work, get_or_intern_all,
 };
 
 /// A call by borrowed forms, or one that borrows what is stored.
@@ -42,195 +43,118 @@ pub enum Ask {
 }
 
 /// The table of owned contents of a kind.
-pub type OwnedTable<K, S> = Table<ContentOf<K>, S>;
+pub type OwnedTable<K, S> = intaglio::Table<ContentOf<K>, S>;
 
 /// The table of a kind in one buffer.
 pub type PackedTable<K, S> = TableOver<Packed<K>, S>;
 
-/// A kind whose tables are asked. Its impls, and those of [`PackedKind`], alone name tables of one kind,
-/// since the prover takes seconds wherever one of them is passed to a call of any table.
-pub trait OwnedKind: KindOwned {
-    /// Whether contents are compared as paths.
-    const ARE_PATHS: bool = false;
-
-    /// Makes the call, and returns its result as text.
-    fn ask_owned<R: Host, S: HasherCount>(
-        rt: &R,
-        table: &mut OwnedTable<Self, S>,
-        contents: &[ContentOf<Self>],
-        ask: Ask,
-    ) -> String;
-}
-
-/// The same of tables in one buffer.
-pub trait PackedKind: KindOwned {
-    /// Makes the call, and returns its result as text.
-    fn ask_packed<R: Host, S: HasherCount>(
-        rt: &R,
-        table: &mut PackedTable<Self, S>,
-        contents: &[ContentOf<Self>],
-        ask: Ask,
-    ) -> String;
-}
-
-impl OwnedKind for StrKind {
-    fn ask_owned<R: Host, S: HasherCount>(
-        rt: &R,
-        table: &mut OwnedTable<StrKind, S>,
-        contents: &[ContentOf<StrKind>],
-        ask: Ask,
-    ) -> String {
+// The prover takes seconds wherever a table of one kind is passed to a call of any table. So these impls
+// alone name tables of one kind.
+impl<S: HasherCount> Table for OwnedTable<StrKind, S> {
+    fn ask<R: Host>(&mut self, rt: &R, contents: &[ContentOf<StrKind>], ask: Ask) -> String {
         match ask {
-            Ask::Forms(steps) => walked(rt, table.strings(), steps),
-            _ => answer(rt, table, contents, ask),
+            Ask::Forms(steps) => walked(rt, self.strings(), steps),
+            _ => answer(rt, self, contents, ask),
         }
     }
 }
 
-impl OwnedKind for OsStrKind {
-    fn ask_owned<R: Host, S: HasherCount>(
-        rt: &R,
-        table: &mut OwnedTable<OsStrKind, S>,
-        contents: &[ContentOf<OsStrKind>],
-        ask: Ask,
-    ) -> String {
+impl<S: HasherCount> Table for OwnedTable<OsStrKind, S> {
+    fn ask<R: Host>(&mut self, rt: &R, contents: &[ContentOf<OsStrKind>], ask: Ask) -> String {
         match ask {
-            Ask::Forms(steps) => walked(rt, table.os_strings(), steps),
-            _ => answer(rt, table, contents, ask),
+            Ask::Forms(steps) => walked(rt, self.os_strings(), steps),
+            _ => answer(rt, self, contents, ask),
         }
     }
 }
 
-impl OwnedKind for BytesKind {
-    fn ask_owned<R: Host, S: HasherCount>(
-        rt: &R,
-        table: &mut OwnedTable<BytesKind, S>,
-        contents: &[ContentOf<BytesKind>],
-        ask: Ask,
-    ) -> String {
+impl<S: HasherCount> Table for OwnedTable<BytesKind, S> {
+    fn ask<R: Host>(&mut self, rt: &R, contents: &[ContentOf<BytesKind>], ask: Ask) -> String {
         match ask {
-            Ask::Forms(steps) => walked(rt, table.bytestrings(), steps),
-            _ => answer(rt, table, contents, ask),
+            Ask::Forms(steps) => walked(rt, self.bytestrings(), steps),
+            _ => answer(rt, self, contents, ask),
         }
     }
 }
 
-impl OwnedKind for BStrKind {
-    fn ask_owned<R: Host, S: HasherCount>(
-        rt: &R,
-        table: &mut OwnedTable<BStrKind, S>,
-        contents: &[ContentOf<BStrKind>],
-        ask: Ask,
-    ) -> String {
+impl<S: HasherCount> Table for OwnedTable<BStrKind, S> {
+    fn ask<R: Host>(&mut self, rt: &R, contents: &[ContentOf<BStrKind>], ask: Ask) -> String {
         match ask {
-            Ask::Forms(steps) => walked(rt, table.bstrings(), steps),
-            _ => answer(rt, table, contents, ask),
+            Ask::Forms(steps) => walked(rt, self.bstrings(), steps),
+            _ => answer(rt, self, contents, ask),
         }
     }
 }
 
-impl OwnedKind for CStrKind {
-    fn ask_owned<R: Host, S: HasherCount>(
-        rt: &R,
-        table: &mut OwnedTable<CStrKind, S>,
-        contents: &[ContentOf<CStrKind>],
-        ask: Ask,
-    ) -> String {
+impl<S: HasherCount> Table for OwnedTable<CStrKind, S> {
+    fn ask<R: Host>(&mut self, rt: &R, contents: &[ContentOf<CStrKind>], ask: Ask) -> String {
         match ask {
-            Ask::Forms(steps) => walked(rt, table.c_strings(), steps),
-            _ => answer(rt, table, contents, ask),
+            Ask::Forms(steps) => walked(rt, self.c_strings(), steps),
+            _ => answer(rt, self, contents, ask),
         }
     }
 }
 
-impl OwnedKind for PathKind {
+impl<S: HasherCount> Table for OwnedTable<PathKind, S> {
     const ARE_PATHS: bool = true;
 
-    fn ask_owned<R: Host, S: HasherCount>(
-        rt: &R,
-        table: &mut OwnedTable<PathKind, S>,
-        contents: &[ContentOf<PathKind>],
-        ask: Ask,
-    ) -> String {
+    fn ask<R: Host>(&mut self, rt: &R, contents: &[ContentOf<PathKind>], ask: Ask) -> String {
         match ask {
-            Ask::Forms(steps) => walked(rt, table.paths(), steps),
-            _ => answer(rt, table, contents, ask),
+            Ask::Forms(steps) => walked(rt, self.paths(), steps),
+            _ => answer(rt, self, contents, ask),
         }
     }
 }
 
-impl PackedKind for StrKind {
-    fn ask_packed<R: Host, S: HasherCount>(
-        rt: &R,
-        table: &mut PackedTable<StrKind, S>,
-        contents: &[ContentOf<StrKind>],
-        ask: Ask,
-    ) -> String {
+impl<S: HasherCount> Table for PackedTable<StrKind, S> {
+    fn ask<R: Host>(&mut self, rt: &R, contents: &[ContentOf<StrKind>], ask: Ask) -> String {
         match ask {
-            Ask::Forms(steps) => walked(rt, table.strings(), steps),
-            _ => answer(rt, table, contents, ask),
+            Ask::Forms(steps) => walked(rt, self.strings(), steps),
+            _ => answer(rt, self, contents, ask),
         }
     }
 }
 
-impl PackedKind for OsStrKind {
-    fn ask_packed<R: Host, S: HasherCount>(
-        rt: &R,
-        table: &mut PackedTable<OsStrKind, S>,
-        contents: &[ContentOf<OsStrKind>],
-        ask: Ask,
-    ) -> String {
+impl<S: HasherCount> Table for PackedTable<OsStrKind, S> {
+    fn ask<R: Host>(&mut self, rt: &R, contents: &[ContentOf<OsStrKind>], ask: Ask) -> String {
         match ask {
-            Ask::Forms(steps) => walked(rt, table.os_strings(), steps),
-            _ => answer(rt, table, contents, ask),
+            Ask::Forms(steps) => walked(rt, self.os_strings(), steps),
+            _ => answer(rt, self, contents, ask),
         }
     }
 }
 
-impl PackedKind for BytesKind {
-    fn ask_packed<R: Host, S: HasherCount>(
-        rt: &R,
-        table: &mut PackedTable<BytesKind, S>,
-        contents: &[ContentOf<BytesKind>],
-        ask: Ask,
-    ) -> String {
+impl<S: HasherCount> Table for PackedTable<BytesKind, S> {
+    fn ask<R: Host>(&mut self, rt: &R, contents: &[ContentOf<BytesKind>], ask: Ask) -> String {
         match ask {
-            Ask::Forms(steps) => walked(rt, table.bytestrings(), steps),
-            _ => answer(rt, table, contents, ask),
+            Ask::Forms(steps) => walked(rt, self.bytestrings(), steps),
+            _ => answer(rt, self, contents, ask),
         }
     }
 }
 
-impl PackedKind for BStrKind {
-    fn ask_packed<R: Host, S: HasherCount>(
-        rt: &R,
-        table: &mut PackedTable<BStrKind, S>,
-        contents: &[ContentOf<BStrKind>],
-        ask: Ask,
-    ) -> String {
+impl<S: HasherCount> Table for PackedTable<BStrKind, S> {
+    fn ask<R: Host>(&mut self, rt: &R, contents: &[ContentOf<BStrKind>], ask: Ask) -> String {
         match ask {
-            Ask::Forms(steps) => walked(rt, table.bstrings(), steps),
-            _ => answer(rt, table, contents, ask),
+            Ask::Forms(steps) => walked(rt, self.bstrings(), steps),
+            _ => answer(rt, self, contents, ask),
         }
     }
 }
 
-impl PackedKind for PathKind {
-    fn ask_packed<R: Host, S: HasherCount>(
-        rt: &R,
-        table: &mut PackedTable<PathKind, S>,
-        contents: &[ContentOf<PathKind>],
-        ask: Ask,
-    ) -> String {
+impl<S: HasherCount> Table for PackedTable<PathKind, S> {
+    const ARE_PATHS: bool = true;
+
+    fn ask<R: Host>(&mut self, rt: &R, contents: &[ContentOf<PathKind>], ask: Ask) -> String {
         match ask {
-            Ask::Forms(steps) => walked(rt, table.paths(), steps),
-            _ => answer(rt, table, contents, ask),
+            Ask::Forms(steps) => walked(rt, self.paths(), steps),
+            _ => answer(rt, self, contents, ask),
         }
     }
 }
 
 // What any table returns for a call by the forms of these.
-fn answer<'a, L: Lends<'a> + LookedUpIn<'a> + Indexed, K, S: HasherCount>(
+fn answer<'a, L: TestStore + Lends<'a, Form: Shown> + LookedUpIn<'a>, K, S: HasherCount>(
     rt: &impl Host,
     table: &'a mut TableOver<L, S>,
     contents: &'a [ContentOf<K>],
@@ -238,9 +162,6 @@ fn answer<'a, L: Lends<'a> + LookedUpIn<'a> + Indexed, K, S: HasherCount>(
 ) -> String
 where
     K: KindForm<'a, Form = <L as LookedUpIn<'a>>::By>,
-    L::Content: Content + SoughtIn<L> + Drop,
-    L::Prepared: Drop,
-    L::Form: Shown,
 {
     let mut forms = Vec::new(rt.alloc());
     for content in contents {
@@ -271,17 +192,12 @@ fn checked_text(rt: &impl Host, symbols: &[Option<Symbol>]) -> String {
 }
 
 // The same for all other calls, which take at most one form.
-fn reply<'a, L: Lends<'a> + LookedUpIn<'a> + Indexed, S: HasherCount>(
+fn reply<'a, L: TestStore + Lends<'a, Form: Shown> + LookedUpIn<'a>, S: HasherCount>(
     rt: &impl Host,
     table: &'a mut TableOver<L, S>,
     form: <L as LookedUpIn<'a>>::By,
     ask: Ask,
-) -> Reply
-where
-    L::Content: Content + SoughtIn<L> + Drop,
-    L::Prepared: Drop,
-    L::Form: Shown,
-{
+) -> Reply {
     match ask {
         Ask::GetOrIntern => interned(table.get_or_intern(form)),
         Ask::CheckInterned => Reply::Symbol(table.check_interned(form)),

@@ -5,7 +5,7 @@ use super::asks::Ask;
 use super::loops::{asked, makes_turns};
 use super::printed::{number, reply_text, spelled, symbols_text, word};
 use super::steps::walked;
-use super::table::{Counts, Makes, Table};
+use super::table::{Makes, Table};
 use crate::support::builders::Counted;
 use crate::support::kinds::{Host, TestContent};
 use crate::support::replies::{interned, roomy};
@@ -173,7 +173,7 @@ fn reply<T: Table>(rt: &impl Host, table: &mut T, line: Line) -> Option<Reply> {
         "index" => Some(spelled(rt, table.index(symbol(rt, line.word)))),
         _ => match update(rt, line) {
             Some(update) => Some(table.update(update)),
-            None => count(rt, table.counts(), line),
+            None => table.number(line.name, line.word),
         },
     }
 }
@@ -187,19 +187,6 @@ fn update(rt: &impl Host, line: Line) -> Option<Update> {
         "shrink_to_fit" => Some(Update::ShrinkToFit),
         "clear" => Some(Update::Clear),
         "take_back" => Some(Update::TakeBack(size(rt, line.word))),
-        _ => None,
-    }
-}
-
-fn count(rt: &impl Host, counts: Counts, line: Line) -> Option<Reply> {
-    match line.name {
-        "len" => Some(Reply::Count(counts.len)),
-        "is_empty" => Some(Reply::Bool(counts.is_empty)),
-        "capacity" => Some(Reply::Count(counts.capacity)),
-        "fits" => Some(Reply::Bool(counts.capacity >= size(rt, line.word))),
-        "limit" => Some(Reply::Count(counts.limit)),
-        "mark" => Some(Reply::Count(counts.mark.count())),
-        "hashers" => Some(Reply::Count(counts.hashers?)),
         _ => None,
     }
 }
@@ -227,7 +214,7 @@ fn batch<T: Table>(rt: &impl Host, table: &mut T, line: Line) -> String {
     }
     match line.name {
         "symbols" => walked(rt, table.symbols(), line.word),
-        "intern_all" => symbols_text(rt, table.put_all(rt.alloc(), words)),
+        "intern_all" => symbols_text(rt, table.put_all(words)),
         "intaglio::intern_all" => symbols_text(rt, table.put_counted(rt.alloc(), words)),
         _ => match batch_ask(line) {
             Some(ask) => table.ask(rt, &words, ask),
