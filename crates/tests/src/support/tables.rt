@@ -45,8 +45,7 @@ pub type Bytes = Result<Vec<u8>, FreezeError>;
 /// over different stores differ.
 pub trait TestStore: Indexed<Content: Content + SoughtIn<Self> + Drop, Prepared: Drop>
     + SpelledStore
-    + Drop
-    + Sized {
+    + Drop {
     /// What is interned.
     type Item: TestContent + AddedTo<Self, Self::How>;
 
@@ -66,20 +65,13 @@ pub trait TestStore: Indexed<Content: Content + SoughtIn<Self> + Drop, Prepared:
     fn put<S: HasherCount>(table: &mut TableOver<Self, S>, item: Self::Item) -> Interned;
 
     /// As `intern_all`. A table in one buffer hasn't that call, and is given to the function of this name.
-    fn put_all<S: HasherCount>(table: &mut TableOver<Self, S>, items: Vec<Self::Item>) -> Symbols {
-        let alloc = table.store().alloc();
-        intern_all::<Self::How, _, _>(alloc, table, items, &mut Work::new())
-    }
+    fn put_all<S: HasherCount>(table: &mut TableOver<Self, S>, items: Vec<Self::Item>) -> Symbols;
 
     /// As `reserve_bytes`. A table of owned contents has no such call.
-    fn reserve_bytes<S: HasherCount>(_table: &mut TableOver<Self, S>, _additional: usize) -> Reply {
-        Reply::Done
-    }
+    fn reserve_bytes<S: HasherCount>(table: &mut TableOver<Self, S>, additional: usize) -> Reply;
 
     /// The bytes of `table[symbol]`, if the symbol was issued. A table in one buffer has no such call.
-    fn index<S: HasherCount>(table: &TableOver<Self, S>, symbol: Symbol) -> Option<&[u8]> {
-        table.store().spelling_at(symbol.id() as usize)
-    }
+    fn index<S: HasherCount>(table: &TableOver<Self, S>, symbol: Symbol) -> Option<&[u8]>;
 
     /// As `freeze`, under the keys 0 and 0.
     fn freeze<S: HasherCount>(alloc: Global, table: &TableOver<Self, S>) -> Bytes;
@@ -108,11 +100,12 @@ impl<K: TestKind> TestStore for Vec<ContentOf<K>> {
         table.intern(item)
     }
 
-    fn put_all<S: HasherCount>(
-        table: &mut TableOver<Self, S>,
-        items: Vec<ContentOf<K>>,
-    ) -> Symbols {
+    fn put_all<S: HasherCount>(table: &mut TableOver<Self, S>, items: Vec<Self::Item>) -> Symbols {
         table.intern_all(items)
+    }
+
+    fn reserve_bytes<S: HasherCount>(_table: &mut TableOver<Self, S>, _additional: usize) -> Reply {
+        Reply::Done
     }
 
     fn index<S: HasherCount>(table: &Table<ContentOf<K>, S>, symbol: Symbol) -> Option<&[u8]> {
@@ -153,11 +146,17 @@ impl<K: TestKind> TestStore for Packed<K> {
         table.intern(item)
     }
 
-    fn reserve_bytes<S: HasherCount>(
-        table: &mut TableOver<Packed<K>, S>,
-        additional: usize,
-    ) -> Reply {
+    fn put_all<S: HasherCount>(table: &mut TableOver<Self, S>, items: Vec<Self::Item>) -> Symbols {
+        let alloc = table.store().alloc();
+        intern_all::<Copied, _, _>(alloc, table, items, &mut Work::new())
+    }
+
+    fn reserve_bytes<S: HasherCount>(table: &mut TableOver<Self, S>, additional: usize) -> Reply {
         roomy(table.reserve_bytes(additional).map_err(RoomError::Memory))
+    }
+
+    fn index<S: HasherCount>(table: &TableOver<Packed<K>, S>, symbol: Symbol) -> Option<&[u8]> {
+        table.store().spelling_at(symbol.id() as usize)
     }
 
     fn freeze<S: HasherCount>(alloc: Global, table: &TableOver<Packed<K>, S>) -> Bytes {
@@ -207,7 +206,7 @@ pub trait TestTable: Drop {
     /// As `all_symbols`.
     fn symbols(&self) -> AllSymbols<'_>;
 
-    /// The number of this name, or whether the capacity is at least the number in `word`.
+    /// What the call of this name returns, which counts. `fits` is whether the capacity is at least `word`.
     fn number(&self, name: &str, word: &str) -> Option<Reply>;
 }
 

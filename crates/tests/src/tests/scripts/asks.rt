@@ -48,8 +48,8 @@ pub type OwnedTable<K, S> = intaglio::Table<ContentOf<K>, S>;
 /// The table of a kind in one buffer.
 pub type PackedTable<K, S> = TableOver<Packed<K>, S>;
 
-// The prover takes seconds wherever a table of one kind is passed to a call of any table. So these impls
-// alone name tables of one kind.
+// The prover takes seconds wherever a table of one kind is passed to a call of any table, which is done only
+// here.
 impl<S: HasherCount> Table for OwnedTable<StrKind, S> {
     fn ask<R: Host>(&mut self, rt: &R, contents: &[ContentOf<StrKind>], ask: Ask) -> String {
         match ask {

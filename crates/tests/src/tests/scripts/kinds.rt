@@ -1,6 +1,6 @@
 //! What only some kinds of content have: spellings of equal paths, zero bytes, and bytes that aren't UTF-8.
 use super::each::{Kept, Owned, Script, Trial, on_paths, try_on_bytes, try_on_each};
-use crate::support::kinds::{CStrKind, Host, TestKind};
+use crate::support::kinds::{CStrKind, Host, TestContent};
 use crate::tests::assertions::same;
 use intaglio::cstr;
 use intaglio::cstr::CStrContent;
@@ -67,6 +67,6 @@ fn keeps_the_zero(rt: &impl Host, content: Option<CStrContent>, ended: &[u8]) {
 
 #[test]
 fn a_zero_ends_a_c_string(rt: HostRuntime) {
-    keeps_the_zero(&rt, CStrKind::borrowed("abc\0"), b"abc\x00");
-    keeps_the_zero(&rt, CStrKind::owned(rt.alloc(), b"abc"), b"abc\x00");
+    keeps_the_zero(&rt, CStrContent::borrowed("abc\0"), b"abc\x00");
+    keeps_the_zero(&rt, CStrContent::owned(rt.alloc(), b"abc"), b"abc\x00");
 }
