@@ -5,12 +5,13 @@ use super::script::{lines_of, makes_calls};
 use super::table::Table;
 use crate::support::builders::{Counted, HasherCount};
 use crate::support::kinds::{Host, StrKind, TestKind};
+use crate::support::tables::TestStore;
 use crate::tests::assertions::same;
 use intaglio::packed::Packed;
 use intaglio::path::{Path, PathContent};
 use intaglio::{
-    AddedTo, BaseInterner, Content, ContentOf, Copied, Indexed, Keyed, LookedUpIn, Sought,
-    SoughtIn, StrContent, TableOver, Work, check_all,
+    AddedTo, BaseInterner, ContentOf, Copied, Keyed, LookedUpIn, Sought, StrContent, TableOver,
+    Work, check_all,
 };
 use intaglio_core::look_ahead;
 use std::hash::RandomState;
@@ -55,15 +56,7 @@ fn a_table_made_of_forms_hashes_each_once(rt: HostRuntime) {
 }
 
 // Asserts how many hashers a table makes that is made of forms.
-fn hashes_forms<'q, L: LookedUpIn<'q> + Indexed + Drop>(
-    rt: &impl Host,
-    forms: &[L::By],
-    wanted: usize,
-)
-where
-    L::Content: Content + SoughtIn<L> + Drop,
-    L::Prepared: Drop,
-{
+fn hashes_forms<'q, L: TestStore + LookedUpIn<'q>>(rt: &impl Host, forms: &[L::By], wanted: usize) {
     let made = TableOver::<L, Counted>::from_slice(rt.alloc(), Counted::new(None), forms);
     same(rt, made.expect(rt, "memory").hasher().made(), Some(wanted));
 }
@@ -100,15 +93,11 @@ fn a_call_by_a_hash_makes_no_hasher(rt: HostRuntime) {
 }
 
 // Asserts how many hashers a table makes for these calls.
-fn hashes_counted_calls<H, L: Indexed + Drop, Q: AddedTo<L, H> + Copy>(
+fn hashes_counted_calls<H, L: TestStore, Q: AddedTo<L, H> + Copy>(
     rt: &impl Host,
     values: &[Q],
     wanted: usize,
-)
-where
-    L::Content: Content + SoughtIn<L> + Drop,
-    L::Prepared: Drop,
-{
+) {
     let made = TableOver::<L, Counted>::with_hasher(rt.alloc(), Counted::new(None));
     let mut table = made.expect(rt, "no table");
     makes_counted_calls::<H, _, _>(rt, &mut table, values);
