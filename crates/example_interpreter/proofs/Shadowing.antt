@@ -1,8 +1,8 @@
 -- Names and their symbols.
-use Rattle.std.proofs.Common.{◌≡◌, ◌∙◌, ap, refl, sym, arith, ℕ, suc, ◌+◌, ◌<◌, List, [], ◌∷◌, ◌++◌, length, map, take, get_or, Option, Some, None, option_map, inl, inr}
-use Rattle.std.specs.Prelude.{slice_get, unwrap_or, All}
+use Rattle.std.proofs.lemmas.Grind.{common_steps}
+use Rattle.std.proofs.Common.{◌≡◌, ◌∙◌, ap, refl, sym, arith, ℕ, suc, ◌+◌, ◌<◌, List, [], ◌∷◌, ◌++◌, length, map, take, get_or, Option, Some, None, option_map}
+use Rattle.std.specs.Prelude.{slice_get, All}
 use Rattle.std.proofs.Math.Seq.{take-append_seam, get_or-append_seam}
-use Rattle.std.proofs.lemmas.Bool.{cases_order}
 use Rattle.std.proofs.lemmas.List.{length-append, map-append}
 use Rattle.std.proofs.lemmas.Option.{same_Some, slice_get-map, slice_get_within, get_or_from_slice_get, slice_get-get_or}
 use Rattle.intaglio.specs.Keys.{str_key}
@@ -16,9 +16,7 @@ use Rattle.example_interpreter.specs.Names.{name_of, IsLast}
 -- what is found by a name has this name
 pub name_found : (s : State StrContent) (w : List ℕ) (n : ℕ) → IsValid str_key s →
     IsFound str_key s (w ∷ []) n → name_of s n ≡ w
-name_found s w n valid found =
-    ap (λ (o : Option (List ℕ)). unwrap_or o [])
-    ((spelled_at str_key str_content_bytes (λ c. refl) s w n valid).1 found)
+name_found s w n valid found = grind (arith, common_steps, spelled_at)
 
 -- and what has it is found by it
 found_by : (s : State StrContent) (n : ℕ) → IsValid str_key s → n < length s.contents →
@@ -40,13 +38,7 @@ pub declared_name : (old new : State StrContent) (symbols after : List ℕ) (n :
     Keeps str_key old new → All (λ n. n < length old.contents) symbols → after ≡ symbols ++ n ∷ []
     → IsValid str_key new → IsFound str_key new (w ∷ []) n →
     map (name_of new) after ≡ map (name_of old) symbols ++ w ∷ []
-declared_name old new symbols after n w kept issued added valid found =
-    rw (
-      added,
-      map-append (name_of new) symbols (n ∷ []),
-      names_kept old new symbols kept issued,
-      name_found new w n valid found,
-    ) refl
+declared_name old new symbols after n w kept issued added valid found = grind (arith, common_steps, map-append, names_kept, name_found)
 
 module _ (s : State StrContent) (symbols : List ℕ) (w : List ℕ) (valid : IsValid str_key s)
     (issued : All (λ n. n < length s.contents) symbols) where
@@ -87,12 +79,7 @@ pub same_last : {X : Type 0} (xs : List X) (x : X) (r q : Option ℕ) → IsLast
 same_last xs x None None a b = refl
 same_last xs x None (Some j) a b = absurd (a j b.0)
 same_last xs x (Some i) None a b = absurd (b i a.0)
-same_last xs x (Some i) (Some j) a b =
-    ap Some (elim (cases_order i j) [
-      | inl same ↦ same
-      | inr other ↦
-          elim other [ inl below ↦ absurd (a.1 j below b.0) | inr above ↦ absurd (b.1 i above a.0) ]
-    ])
+same_last xs x (Some i) (Some j) a b = grind (arith, common_steps)
 
 -- after a declaration it is the last one of its name
 pub last_added : {X : Type 0} (xs : List X) (x : X) (r : Option ℕ) → IsLast (xs ++ x ∷ []) x r →

@@ -1,4 +1,5 @@
 -- The texts of tokens after one more was interned.
+use Rattle.std.proofs.lemmas.Grind.{common_steps}
 use Rattle.std.proofs.Common.{◌≡◌, ap, refl, arith, ℕ, ◌<◌, suc, List, [], ◌∷◌, ◌++◌, length, get_or, Option}
 use Rattle.std.specs.Prelude.{unwrap_or, All, ◌↔◌}
 use Rattle.std.proofs.lemmas.Grind.{flat_map-append}
@@ -17,9 +18,7 @@ use Rattle.example_interpreter.specs.declared.token.Token.{Token}
 -- what is stored with a key of one text has this text
 pub stored-text : (s : State BytesContent) (text : List ℕ) (i : ℕ) → IsStored bytes_key s (text ∷ []) i →
     text_of s.contents i ≡ text
-stored-text s text i is =
-    let same : bytes_content_bytes is.content ≡ text = let key = is.same_key in cc in
-    rw is.stands same
+stored-text s text i is = grind (arith, common_steps)
 
 -- and it was issued
 pub stored-within : (s : State BytesContent) (text : List ℕ) (i : ℕ) → IsStored bytes_key s (text ∷ []) i →

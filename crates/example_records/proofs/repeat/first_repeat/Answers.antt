@@ -1,3 +1,4 @@
+use Rattle.std.proofs.lemmas.Grind.{common_steps}
 use Rattle.std.proofs.Common.{◌≡◌, ◌≢◌, ◌<◌, arith, sym, ◌∙◌, map, length, List, [], ℕ, Bor}
 use Rattle.std.proofs.lemmas.List.{get_or-map, length-map, take_all}
 use Rattle.example_records.proofs.Repeats.{repeats, held-too, texts-distinct}
@@ -34,11 +35,4 @@ loop-key-preserved c =
     }
 
 pub returns : goal.returns
-returns c =
-    let texts : List (List ℕ) = map (λ (key : Bor (List ℕ)). key.now) c.args.keys.now in
-    let size : length texts ≡ length c.args.keys.now =
-    length-map c.args.keys.now (λ (key : Bor (List ℕ)). key.now) in
-    let done : c.loop-key.key-index ≡ length c.args.keys.now =
-    omega (arith, c.loop-key.auto.key-index-end, c.loop-key-test.false) in
-    texts-distinct c.loop-key.table.state texts c.loop-key.invariant.valid (c.loop-key.invariant.held
-    ∙ take_all c.loop-key.key-index texts (omega arith))
+returns c = grind (arith, common_steps, length-map, texts-distinct, take_all)

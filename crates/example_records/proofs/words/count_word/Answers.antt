@@ -17,14 +17,7 @@ pub returns-else-i-len-clause-beside : goal.returns-else-i-len-clause-beside
 returns-else-i-len-clause-beside c =
     let next = new-word c.args.texts.now.state c.get_or_intern.new.self.state c.args.word.now
     c.in_ok-symbol.symbol _ refl c.in_ok-symbol.ensures.step
-    (omega (
-      arith,
-      c.if-i-len.false,
-      c.len.ensures,
-      c.id-i.ensures,
-      c.in_ok-reserve.ensures.len,
-      c.requires.beside,
-    )) in
+    (omega arith) in
     let pushed : c.push.new.self.items ≡ c.args.counts.now.items ++ 1 ∷ [] = search rules in
     rw (next.2, pushed, length-append c.args.counts.now.items (1 ∷ [])) (ap (λ n. n + 1) c.requires.beside)
 
@@ -32,14 +25,7 @@ pub returns-else-i-len-clause-counted : goal.returns-else-i-len-clause-counted
 returns-else-i-len-clause-counted c =
     let next = new-word c.args.texts.now.state c.get_or_intern.new.self.state c.args.word.now
     c.in_ok-symbol.symbol _ refl c.in_ok-symbol.ensures.step
-    (omega (
-      arith,
-      c.if-i-len.false,
-      c.len.ensures,
-      c.id-i.ensures,
-      c.in_ok-reserve.ensures.len,
-      c.requires.beside,
-    )) in
+    (omega arith) in
     let pushed : c.push.new.self.items ≡ c.args.counts.now.items ++ 1 ∷ [] = search rules in
     let last : c.in_ok-symbol.symbol ≡ length c.args.counts.now.items = next.1 ∙ sym c.requires.beside in
     rw (
