@@ -1,9 +1,9 @@
 -- How chains of lines change.
 use Rattle.std.proofs.lemmas.Grind.{common_steps}
-use Rattle.std.proofs.Common.{◌≡◌, ◌≢◌, ℕ, suc, ◌+◌, ◌<◌, ◌≤◌, ◌==◌, List, [], ◌∷◌, ◌++◌, length, get_or, set, take, refl, sym, subst, ap, ◌∙◌, arith, inl, inr, length-append}
-use Rattle.std.proofs.lemmas.Bool.{cases_eq, cond-true, cond-false, eq-eqb}
+use Rattle.std.proofs.Common.{◌≡◌, ◌≢◌, ℕ, suc, ◌+◌, ◌<◌, ◌≤◌, ◌==◌, List, [], ◌∷◌, ◌++◌, length, get_or, set, refl, sym, subst, ap, ◌∙◌, arith, inl, inr, length-append}
+use Rattle.std.proofs.lemmas.Bool.{cases_eq, cond-true, eq-eqb}
 use Rattle.std.proofs.lemmas.Bool.Decides.{eqb_tells}
-use Rattle.std.proofs.lemmas.List.{get_or-set_same, get_or-set_other, length-set, get_or_append_left, get_or-take, get_or_default}
+use Rattle.std.proofs.lemmas.List.{get_or-set_same, get_or-set_other, length-set, get_or_append_left, get_or_default}
 use Rattle.std.proofs.Math.Seq.{get_or-append_seam}
 use Rattle.intaglio_records.specs.declared.line.Line.{Line}
 use Rattle.intaglio_records.specs.Line.{Entry, IsLine}
@@ -28,62 +28,34 @@ newest-add base k c e (o ∷ os) =
       | inr h ↦ rw (h.0, add-length c e os, newest-add base k c e os) refl
     ]
 
--- if there is a first line, the number of a class's newest overflow line, or 0, is below that of all lines
-pub newest-lt : (base c : ℕ) (os : List Overflow) → 0 < base → newest base c os < base + length os
-newest-lt base c [] some = omega (arith, some)
-newest-lt base c (o ∷ os) some =
+-- the number of a class's newest overflow line, if it isn't 0, comes behind the first lines. If there is a first
+-- line or that number isn't 0, it is below the number of lines
+pub newest-at : (base c : ℕ) (os : List Overflow) → (0 < newest base c os → base ≤ newest base c os)
+    × (0 < base + newest base c os → newest base c os < base + length os)
+newest-at base c [] = (λ some. omega (arith, some), λ some. omega (arith, some))
+newest-at base c (o ∷ os) =
+    let rest = newest-at base c os in
     elim (eqb_tells o.0 c) [
-      | inl h ↦ rw h.0 (omega arith)
-      | inr h ↦ rw h.0 (omega (arith, newest-lt base c os some))
+      | inl h ↦ rw h.0 (λ _. omega arith, λ _. omega arith)
+      | inr h ↦ rw h.0 (rest.0, λ some. omega (arith, rest.1 some))
     ]
 
--- the newest overflow line of a class, if its number isn't 0, comes behind the first lines
-pub newest-ge : (base c : ℕ) (os : List Overflow) → 0 < newest base c os → base ≤ newest base c os
-newest-ge base c [] some = omega (arith, some)
-newest-ge base c (o ∷ os) some =
-    elim (eqb_tells o.0 c) [
-      | inl h ↦ rw h.0 (omega arith)
-      | inr h ↦ rw h.0 (newest-ge base c os (rw h.0 at some))
-    ]
-
--- the number of the newest overflow line of a class, if it isn't 0, is below the number of lines
-pub newest-below : (base c : ℕ) (os : List Overflow) → 0 < newest base c os →
-    newest base c os < base + length os
-newest-below base c [] some = absurd (omega (arith, some))
-newest-below base c (o ∷ os) some =
-    elim (eqb_tells o.0 c) [
-      | inl h ↦ rw h.0 (omega arith)
-      | inr h ↦ rw h.0 (omega (arith, newest-below base c os (rw h.0 at some)))
-    ]
+-- lines that have the overflow lines' elements have the overflow lines
+pub behind-same : (base : ℕ) (lines more : List Line) (os : List Overflow) →
+    ((k : ℕ) → base ≤ k → k < base + length os → get_or more k no_line ≡ get_or lines k no_line) →
+    AreBehind base lines os → AreBehind base more os
+behind-same base lines more [] same are = tt
+behind-same base lines more (o ∷ os) same are = (
+  rw (same (base + length os) (omega arith) (omega arith)) are.0,
+  behind-same base lines more os (λ k ge lt. same k ge (omega (arith, lt))) are.1,
+)
 
 -- writing elsewhere changes no overflow line
 pub behind-kept : (base : ℕ) (lines : List Line) (i : ℕ) (x : Line) (os : List Overflow) →
     ((k : ℕ) → base ≤ k → k < base + length os → k ≢ i) → AreBehind base lines os →
     AreBehind base (set lines i x) os
-behind-kept base lines i x [] out are = tt
-behind-kept base lines i x (o ∷ os) out are = (
-  rw (get_or-set_other lines i (base + length os) x no_line
-      (out (base + length os) (omega arith) (omega arith))) are.0,
-  behind-kept base lines i x os (λ k ge lt. out k ge (omega (arith, lt))) are.1,
-)
-
--- a line behind all overflow lines leaves them where they are
-behind-append : (base : ℕ) (lines : List Line) (x : Line) (os : List Overflow) →
-    base + length os ≤ length lines → AreBehind base lines os → AreBehind base (lines ++ x ∷ []) os
-behind-append base lines x [] le are = tt
-behind-append base lines x (o ∷ os) le are = (
-  rw (get_or_append_left lines (x ∷ []) no_line (base + length os) (omega (arith, le))) are.0,
-  behind-append base lines x os (omega (arith, le)) are.1,
-)
-
--- the first n lines have the overflow lines where they are, if none of these comes behind them
-pub behind-take : (base n : ℕ) (lines : List Line) (os : List Overflow) → base + length os ≤ n →
-    AreBehind base lines os → AreBehind base (take n lines) os
-behind-take base n lines [] le are = tt
-behind-take base n lines (o ∷ os) le are = (
-  rw (get_or-take n lines (base + length os) no_line (omega (arith, le))) are.0,
-  behind-take base n lines os (omega (arith, le)) are.1,
-)
+behind-kept base lines i x os out are =
+    behind-same base lines (set lines i x) os (λ k ge lt. get_or-set_other lines i k x no_line (out k ge lt)) are
 
 -- the newest overflow line of a class
 pub newest-line : (base c : ℕ) (lines : List Line) (os : List Overflow) → AreBehind base lines os →
@@ -98,44 +70,28 @@ newest-line base c lines (o ∷ os) are some =
     ]
 
 -- an entry is added to it
-behind-add : (base c : ℕ) (e : Entry) (lines : List Line) (x : Line) (os : List Overflow) →
-    base + length os ≤ length lines → 0 < newest base c os →
-    ((es : List Entry) (next : ℕ) → IsLine (get_or lines (newest base c os) no_line) es next →
-    IsLine x (e ∷ es) next) → AreBehind base lines os →
-    AreBehind base (set lines (newest base c os) x) (add c e os)
-behind-add base c e lines x [] le some put are = tt
-behind-add base c e lines x (o ∷ os) le some put are =
+pub behind-add : (base c n : ℕ) (e : Entry) (lines : List Line) (x : Line) (os : List Overflow) →
+    n ≡ newest base c os → 0 < n → base + length os ≤ length lines →
+    ((es : List Entry) (next : ℕ) → IsLine (get_or lines n no_line) es next → IsLine x (e ∷ es) next) →
+    AreBehind base lines os → AreBehind base (set lines n x) (add c e os)
+behind-add base c n e lines x [] is some le put are = tt
+behind-add base c n e lines x (o ∷ os) is some le put are =
     elim (eqb_tells o.0 c) [
       | inl h ↦
-          (let at : newest base c (o ∷ os) ≡ base + length os =
-          cond-true (o.0 == c) (base + length os) (newest base c os) h.0 in
-          rw (at, h.0) (
-            rw (get_or-set_same lines (base + length os) x no_line (omega (arith, le)))
-                (put o.1 (newest base o.0 os) (rw at are.0)),
-            behind-kept base lines (base + length os) x os (λ k ge lt same. omega (arith, lt, same)) are.1,
+          (let here : n ≡ base + length os = rw h.0 at is in
+          rw h.0 (
+            rw (here, get_or-set_same lines (base + length os) x no_line (omega (arith, le)))
+                (put o.1 (newest base o.0 os) (rw here are.0)),
+            behind-kept base lines n x os (λ k ge lt same. omega (arith, here, lt, same)) are.1,
           ))
       | inr h ↦
-          (let at : newest base c (o ∷ os) ≡ newest base c os =
-          cond-false (o.0 == c) (base + length os) (newest base c os) h.0 in
-          let some' : 0 < newest base c os = rw at at some in
-          let other : base + length os ≢ newest base c os =
-          λ same. omega (arith, newest-below base c os some', same) in
-          rw (at, h.0) (
-            rw (
-              add-length c e os,
-              newest-add base o.0 c e os,
-              get_or-set_other lines (newest base c os) (base + length os) x no_line other,
-            ) are.0,
-            behind-add base c e lines x os (omega (arith, le)) some' (λ es next is.
-                put es next (rw at is)) are.1,
+          (let there : n ≡ newest base c os = rw h.0 at is in
+          let other : base + length os ≢ n = λ same. omega (arith, there, some, same, (newest-at base c os).1) in
+          rw h.0 (
+            rw (add-length c e os, newest-add base o.0 c e os, get_or-set_other lines n (base + length os) x no_line other) are.0,
+            behind-add base c n e lines x os there some (omega (arith, le)) put are.1,
           ))
     ]
-
--- chains stay chains if their first lines are said to have the same entries
-pub chains-same : (base : ℕ) (lines : List Line) (f g : ℕ → List Entry) (os : List Overflow) →
-    ((c : ℕ) → g c ≡ f c) → AreChains base lines f os → AreChains base lines g os
-chains-same base lines f g os same are =
-    record { size = are.size; firsts_are = λ c lt. rw (same c) (are.firsts_are c lt); behind = are.behind }
 
 -- a first line is written
 pub chains-first : (base c : ℕ) (lines : List Line) (f g : ℕ → List Entry) (os : List Overflow) (x : Line) →
@@ -150,23 +106,6 @@ chains-first base c lines f g os x within are others is =
         | inr other ↦ rw (get_or-set_other lines c k x no_line other, others k other) (are.firsts_are k lt)
       ];
       behind = behind-kept base lines c x os (λ k ge lt same. omega (arith, ge, within, same)) are.behind;
-    }
-
--- an entry is added to the newest overflow line of its class
-pub chains-add : (base c : ℕ) (e : Entry) (lines : List Line) (f : ℕ → List Entry) (os : List Overflow)
-    (x : Line) → 0 < newest base c os →
-    ((es : List Entry) (next : ℕ) → IsLine (get_or lines (newest base c os) no_line) es next →
-    IsLine x (e ∷ es) next) → AreChains base lines f os →
-    AreChains base (set lines (newest base c os) x) f (add c e os)
-chains-add base c e lines f os x some put are =
-    record {
-      size = length-set lines (newest base c os) x ∙ are.size ∙ ap (λ n. base + n) (sym (add-length c e os));
-      firsts_are =
-          λ k lt. (let other : k ≢ newest base c os =
-          λ same. omega (arith, newest-ge base c os some, lt, same) in
-          rw (newest-add base k c e os, get_or-set_other lines (newest base c os) k x no_line other)
-          (are.firsts_are k lt));
-      behind = behind-add base c e lines x os (omega (arith, are.size)) some put are.behind;
     }
 
 -- a new overflow line
@@ -184,7 +123,12 @@ chains-new base c e lines f os x y within are first leads =
     record {
       size = length-set more c y ∙ omega (arith, long, are.size);
       firsts_are = grind (arith, common_steps);
-      behind = grind (arith, common_steps, get_or-set_other, behind-kept, behind-append);
+      behind = (
+        rw (get_or-set_other more c (base + length os) y no_line apart, at) first,
+        behind-same base lines (set more c y) os (λ k ge lt.
+            get_or-set_other more c k y no_line (λ same. omega (arith, ge, within, same))
+            ∙ get_or_append_left lines (x ∷ []) no_line k (omega (arith, lt, are.size))) are.behind,
+      );
     }
 
 -- a line that was read

@@ -1,53 +1,64 @@
 -- An entry more.
 use Rattle.std.proofs.Common.{◌≡◌, ◌≢◌, ℕ, ◌+◌, ◌*◌, ◌%◌, ◌<◌, ◌≤◌, List, [], ◌∷◌, ◌++◌, length, get_or, set, sym, subst, arith, inl, inr, mod-lt}
+use Rattle.std.specs.Prelude.{vec_capacity}
+use Rattle.std.proofs.lemmas.List.{get_or-set_other, length-set}
 use Rattle.intaglio_records.specs.declared.line.Line.{Line}
 use Rattle.intaglio_records.specs.Line.{Entry, IsLine}
-use Rattle.intaglio_records.specs.Chains.{first_line, newest_length, overflow, newest, no_line, AreChains, IsFilled}
+use Rattle.intaglio_records.specs.Chains.{first_line, newest_length, overflow, newest, no_line, AreChains, IsFilled, firsts_of}
 use Rattle.intaglio_records.specs.declared.lines.Lines.{Lines}
-use Rattle.intaglio_records.proofs.ChainLemmas.{chains-same, chains-first, chains-add, chains-new, read-line, newest-line, newest-lt}
+use Rattle.intaglio_records.proofs.ChainLemmas.{add-length, newest-add, newest-at, behind-add, chains-first, chains-new, read-line, newest-line}
 use Rattle.intaglio_records.proofs.Tops.{first-other, first-here, first-full, overflow-same, overflow-add, overflow-new, is-top, top-few, needed}
 
-module _ (base : ℕ) (e : Entry) (es : List Entry) (lines : List Line) (some : 0 < base)
-    (are : AreChains base lines (λ c. first_line base c es) (overflow base es)) where
-  pub place-first : (x : Line) → length (first_line base (e.0 % base) es) < 11 →
-      IsLine x (e ∷ first_line base (e.0 % base) es) (newest base (e.0 % base) (overflow base es)) →
-      AreChains base (set lines (e.0 % base) x) (λ c. first_line base c (e ∷ es)) (overflow base (e ∷ es))
-  place-first x lt is =
-      subst (λ os. AreChains base (set lines (e.0 % base) x) (λ c. first_line base c (e ∷ es)) os)
-      (sym (overflow-same base e es lt))
-      (chains-first base (e.0 % base) lines (λ c. first_line base c es) (λ c. first_line base c (e ∷ es))
-      (overflow base es) x (mod-lt e.0 some) are (λ k other. first-other base k e es other)
-      (rw (first-here base e es lt) is))
+-- lines with the same room are filled with other entries if their chains have these
+pub refilled : (old new : Lines) (es fs : List Entry) → IsFilled old es → new.base ≡ old.base →
+    vec_capacity new.lines ≡ vec_capacity old.lines → length fs ≤ 8 * new.base →
+    AreChains new.base new.lines.items (firsts_of new.base fs) (overflow new.base fs) → IsFilled new fs
+refilled old new es fs is base room few chains =
+    record {
+      chains = chains;
+      power = rw base is.power;
+      few = few;
+      reserved = omega (arith, base, room, is.reserved);
+      tight = omega (arith, base, room, is.tight);
+      small = omega (arith, base, is.small);
+    }
 
-  pub place-add : (x : Line) → 11 ≤ length (first_line base (e.0 % base) es) →
-      newest_length (e.0 % base) (overflow base es) < 11 → 0 < newest base (e.0 % base) (overflow base es) →
-      ((xs : List Entry) (next : ℕ) →
-      IsLine (get_or lines (newest base (e.0 % base) (overflow base es)) no_line) xs next →
-      IsLine x (e ∷ xs) next) →
-      AreChains base (set lines (newest base (e.0 % base) (overflow base es)) x)
-      (λ c. first_line base c (e ∷ es)) (overflow base (e ∷ es))
-  place-add x full lt there put =
-      let more = set lines (newest base (e.0 % base) (overflow base es)) x in
-      subst (λ os. AreChains base more (λ c. first_line base c (e ∷ es)) os)
-      (sym (overflow-add base e es full lt))
-      (chains-same base more (λ c. first_line base c es) (λ c. first_line base c (e ∷ es)) _
-      (λ k. first-full base e es full k)
-      (chains-add base (e.0 % base) e lines (λ c. first_line base c es) (overflow base es) x there put are))
+module _ (base k : ℕ) (e : Entry) (es : List Entry) (lines : List Line) (some : 0 < base) (at : k ≡ e.0 % base)
+    (are : AreChains base lines (firsts_of base es) (overflow base es)) where
+  pub place-first : (x : Line) → length (first_line base k es) < 11 →
+      IsLine x (e ∷ first_line base k es) (newest base k (overflow base es)) →
+      AreChains base (set lines k x) (firsts_of base (e ∷ es)) (overflow base (e ∷ es))
+  place-first = rw at (λ x lt is. rw (overflow-same base e es lt)
+      (chains-first base (e.0 % base) lines (firsts_of base es) (firsts_of base (e ∷ es)) (overflow base es) x
+      (mod-lt e.0 some) are (λ k other. first-other base k e es other) (rw (first-here base e es lt) is)))
 
-  pub place-new : (x y : Line) → 11 ≤ length (first_line base (e.0 % base) es) →
-      11 ≤ newest_length (e.0 % base) (overflow base es) →
-      IsLine x (e ∷ []) (newest base (e.0 % base) (overflow base es)) →
-      IsLine y (first_line base (e.0 % base) es) (length lines) →
-      AreChains base (set (lines ++ x ∷ []) (e.0 % base) y) (λ c. first_line base c (e ∷ es))
-      (overflow base (e ∷ es))
-  place-new x y full none first leads =
-      let more = set (lines ++ x ∷ []) (e.0 % base) y in
-      subst (λ os. AreChains base more (λ c. first_line base c (e ∷ es)) os)
-      (sym (overflow-new base e es full none))
-      (chains-same base more (λ c. first_line base c es) (λ c. first_line base c (e ∷ es)) _
-      (λ k. first-full base e es full k)
-      (chains-new base (e.0 % base) e lines (λ c. first_line base c es) (overflow base es) x y
-      (mod-lt e.0 some) are first leads))
+  pub place-add : (x : Line) (n : ℕ) → n ≡ newest base k (overflow base es) → 0 < n →
+      11 ≤ length (first_line base k es) → newest_length k (overflow base es) < 11 →
+      ((xs : List Entry) (next : ℕ) → IsLine (get_or lines n no_line) xs next → IsLine x (e ∷ xs) next) →
+      AreChains base (set lines n x) (firsts_of base (e ∷ es)) (overflow base (e ∷ es))
+  place-add = rw at (λ x n is there full lt put.
+      let c = e.0 % base in let os = overflow base es in
+      rw (overflow-add base e es full lt) (record {
+        size = omega (arith, length-set lines n x, are.size, add-length c e os);
+        firsts_are = λ k lt. rw (
+          newest-add base k c e os,
+          first-full base e es full k,
+          get_or-set_other lines n k x no_line (λ same. omega (arith, is, there, lt, same, (newest-at base c os).0)),
+        ) (are.firsts_are k lt);
+        behind = behind-add base c n e lines x os is there (omega (arith, are.size)) put are.behind;
+      }))
+
+  pub place-new : (x y : Line) → 11 ≤ length (first_line base k es) → 11 ≤ newest_length k (overflow base es) →
+      IsLine x (e ∷ []) (newest base k (overflow base es)) → IsLine y (first_line base k es) (length lines) →
+      AreChains base (set (lines ++ x ∷ []) k y) (firsts_of base (e ∷ es)) (overflow base (e ∷ es))
+  place-new = rw at (λ x y full none first leads.
+      let new = chains-new base (e.0 % base) e lines (firsts_of base es) (overflow base es) x y
+      (mod-lt e.0 some) are first leads in
+      rw (overflow-new base e es full none) (record {
+        size = new.size;
+        firsts_are = λ k lt. rw (first-full base e es full k) (new.firsts_are k lt);
+        behind = new.behind;
+      }))
 
 -- a class whose lines are all full
 pub all-full : (base c : ℕ) (es : List Entry) → 0 < base → c < base → 11 ≤ length (first_line base c es) →
@@ -59,37 +70,27 @@ all-full base c es some within full none =
     ])
 
 -- lines that were read
-module _ (lines : Lines) (es : List Entry) (filled : IsFilled lines es) (c : ℕ)
-    (within : c < lines.base) where
-  pub first-is : (x : Line) → x ≡ get_or lines.lines.items c x →
+module _ (lines : Lines) (es : List Entry) (filled : IsFilled lines es) (c : ℕ) where
+  pub first-is : c < lines.base → (x : Line) → x ≡ get_or lines.lines.items c x →
       IsLine x (first_line lines.base c es) (newest lines.base c (overflow lines.base es))
-  first-is x e = read-line lines.lines.items c x _ _ (omega (arith, within, filled.chains.size)) e
+  first-is within x e = read-line lines.lines.items c x _ _ (omega (arith, within, filled.chains.size)) e
       (filled.chains.firsts_are c within)
 
-  pub newest-is : (x : Line) (n : ℕ) → x ≡ get_or lines.lines.items c x →
-      ((xs : List Entry) (next : ℕ) → IsLine x xs next → n ≡ next) →
-      n ≡ newest lines.base c (overflow lines.base es)
-  newest-is x n e tells = tells _ _ (first-is x e)
+  module _ (n : ℕ) (is : n ≡ newest lines.base c (overflow lines.base es)) where
+    pub newest-in : 0 < lines.base + n → n < length lines.lines.items
+    newest-in some =
+        omega (arith, is, some, (newest-at lines.base c (overflow lines.base es)).1, filled.chains.size)
 
-  pub newest-in : newest lines.base c (overflow lines.base es) < length lines.lines.items
-  newest-in = omega (
-    arith,
-    newest-lt lines.base c (overflow lines.base es) (omega (arith, within)),
-    filled.chains.size,
-  )
-
-  pub other-is : (x : Line) (n : ℕ) → n ≡ newest lines.base c (overflow lines.base es) → n ≢ 0 →
-      x ≡ get_or lines.lines.items n x →
-      (xs : List Entry) × (older : ℕ) × IsLine x xs older
-      × (newest_length c (overflow lines.base es) ≡ length xs)
-  other-is x n at some e =
-      let there : 0 < newest lines.base c (overflow lines.base es) = omega (arith, at, some) in
-      let found =
-      newest-line lines.base c lines.lines.items (overflow lines.base es) filled.chains.behind there in
-      let inside : n < length lines.lines.items = omega (arith, at, newest-in) in (
-        found.0,
-        found.1,
-        read-line lines.lines.items n x found.0 found.1 inside e
-            (subst (λ i. IsLine (get_or lines.lines.items i no_line) found.0 found.1) (sym at) found.2),
-        found.3,
-      )
+    pub other-is : n ≢ 0 → (x : Line) → x ≡ get_or lines.lines.items n x →
+        (xs : List Entry) × (older : ℕ) × IsLine x xs older
+        × (newest_length c (overflow lines.base es) ≡ length xs)
+    other-is some x e =
+        let found =
+        newest-line lines.base c lines.lines.items (overflow lines.base es) filled.chains.behind
+        (omega (arith, is, some)) in (
+          found.0,
+          found.1,
+          read-line lines.lines.items n x found.0 found.1 (newest-in (omega (arith, some))) e
+              (subst (λ i. IsLine (get_or lines.lines.items i no_line) found.0 found.1) (sym is) found.2),
+          found.3,
+        )

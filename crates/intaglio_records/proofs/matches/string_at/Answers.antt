@@ -1,5 +1,5 @@
 use Rattle.std.proofs.lemmas.Grind.{common_steps}
-use Rattle.std.proofs.Common.{◌≡◌, ◌+◌, [], slice_range, arith, ◌∙◌}
+use Rattle.std.proofs.Common.{slice_range, arith}
 use Rattle.intaglio_records.proofs.Reading.{there, string-there}
 use Rattle.intaglio_records.proofs.matches.string_at.Goals as goal
 

@@ -1,5 +1,5 @@
 use Rattle.std.proofs.lemmas.Grind.{common_steps}
-use Rattle.std.proofs.Common.{◌≡◌, not, arith, ◌∙◌}
+use Rattle.std.proofs.Common.{not, arith}
 use Rattle.std.proofs.lemmas.Bool.{not-false}
 use Rattle.intaglio_records.proofs.EntryLemmas.{entries-all}
 use Rattle.intaglio_records.proofs.RecordLemmas.{are-long}

@@ -1,5 +1,5 @@
 use Rattle.std.proofs.lemmas.Grind.{common_steps}
-use Rattle.std.proofs.Common.{◌≡◌, ◌<◌, [], ◌∷◌, sum_by, arith, ◌∙◌}
+use Rattle.std.proofs.Common.{sum_by, arith}
 use Rattle.std.proofs.lemmas.List.{length-append, length-map}
 use Rattle.intaglio_records.proofs.EntryLemmas.{entries-push, length-entries_of, sizes-all}
 use Rattle.intaglio_records.proofs.RecordLemmas.{are-long}

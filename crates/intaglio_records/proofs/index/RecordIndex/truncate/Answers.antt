@@ -1,5 +1,5 @@
 use Rattle.std.proofs.lemmas.Grind.{common_steps}
-use Rattle.std.proofs.Common.{◌≡◌, arith, ◌∙◌}
+use Rattle.std.proofs.Common.{arith}
 use Rattle.std.proofs.lemmas.List.{length-map, length-take}
 use Rattle.intaglio_records.proofs.EntryLemmas.{entries-all, entries-cut, entries-first}
 use Rattle.intaglio_records.proofs.RecordLemmas.{are-long}

@@ -5,7 +5,7 @@ use Rattle.std.proofs.lemmas.Nat.Bits.{bit_at-zero}
 use Rattle.intaglio_records.specs.Line.{IsLine}
 use Rattle.intaglio_records.specs.Chains.{newest, no_line}
 use Rattle.intaglio_records.specs.Search.{overflow_slots}
-use Rattle.intaglio_records.proofs.ChainLemmas.{newest-lt}
+use Rattle.intaglio_records.proofs.ChainLemmas.{newest-at}
 use Rattle.intaglio_records.proofs.Searching.{next-line, next-inside, picked-none, picked-fresh}
 use Rattle.intaglio_records.proofs.search.Candidates.advance.Goals as goal
 
@@ -55,4 +55,4 @@ returns-clause-older c =
     let there = next-line is.base is.class s.tag s.lines.now is.behind is.lines some in
     let line = subst (λ i. IsLine (get_or s.lines.now i no_line) there.0 (newest is.base is.class there.1))
     (sym is.next) there.2 in
-    omega (arith, c.next.ensures there.0 (newest is.base is.class there.1) line, newest-lt is.base is.class there.1 is.based)
+    omega (arith, c.next.ensures there.0 (newest is.base is.class there.1) line, (newest-at is.base is.class there.1).1, is.based)

@@ -1,5 +1,5 @@
 use Rattle.std.proofs.lemmas.Grind.{common_steps}
-use Rattle.std.proofs.Common.{◌≡◌, ◌+◌, ◌++◌, ◌-◌, ◌∙◌, ◌≤◌, arith, append_assoc, length-append}
+use Rattle.std.proofs.Common.{arith, append_assoc, length-append}
 use Rattle.intaglio_records.proofs.Ends.{byte_room-is, ends-push, strings-push}
 use Rattle.intaglio_records.proofs.string_buffer.StringBuffer.push_parts.Goals as goal
 

@@ -1,5 +1,5 @@
 use Rattle.std.proofs.lemmas.Grind.{common_steps}
-use Rattle.std.proofs.Common.{◌+◌, ◌≤◌, arith}
+use Rattle.std.proofs.Common.{arith}
 use Rattle.intaglio_records.proofs.Ends.{byte_room-is}
 use Rattle.intaglio_records.proofs.string_buffer.StringBuffer.shrink_bytes.Goals.{then-capacity-self, else-capacity-self}
 use Rattle.intaglio_records.proofs.string_buffer.StringBuffer.shrink_bytes.Goals as goal

@@ -1,5 +1,5 @@
 use Rattle.std.proofs.lemmas.Grind.{common_steps}
-use Rattle.std.proofs.Common.{◌<◌, arith, ◌∙◌}
+use Rattle.std.proofs.Common.{arith}
 use Rattle.intaglio_records.proofs.Ends.{ends-at, strings-at, strings_length}
 use Rattle.intaglio_records.proofs.string_buffer.StringBuffer.string.Goals as goal
 
