@@ -13,7 +13,7 @@ use Rattle.intaglio_records.specs.Header.{hash_at, number_at}
 use Rattle.intaglio_records.specs.Line.{Entry, tag_of}
 use Rattle.intaglio_records.specs.Records.{pair_of, AreRecords}
 use Rattle.intaglio_records.specs.Entries.{entries, position, slot_of}
-use Rattle.intaglio_records.proofs.Reading.{there}
+use Rattle.intaglio_records.proofs.Reading.{There, there}
 use Rattle.intaglio_records.specs.Matches.{IsPosition, IsSlot, begin_of, numbers_with, one_of, AreAll, IsLeft}
 use Rattle.std.specs.List.Sorted.{IsPermutation}
 use Rattle.std.proofs.lemmas.List.{length-map}
@@ -22,9 +22,11 @@ use Rattle.std.proofs.lemmas.List.Sorted.{sum_by-IsPermutation}
 -- what is known after a slot is given whose record begins here: whether that is the
 -- next to be given depends on its hash
 pub record Stepped (xs : List (ℕ
-    × List ℕ)) (hash : ℕ) (matches : Matches) (at : ℕ) (left : List ℕ) : Type 0 where
+    × List ℕ)) (hash : ℕ) (matches : Matches) (slot at : ℕ) (left : List ℕ) : Type 0 where
   pub rest : List ℕ
+  pub slot_is : IsSlot matches.is_long matches.records.now.list slot
   pub begins : IsPosition matches.records.now.list at
+  pub there : There matches.records.now.list (concat matches.records.now.list) at begins.0
   pub is : IsLeft xs hash matches rest
   pub same : hash_at (concat matches.records.now.list) at ≡ hash
       → left ≡ number_at (concat matches.records.now.list) at ∷ rest
@@ -36,25 +38,13 @@ pub slot-begins : (long : Bool) (rs : List (List ℕ)) (slot : ℕ) → IsSlot l
 slot-begins true rs slot is = (is.0, is.1, ap (position rs) is.2)
 slot-begins false rs slot is = is
 
--- the slot that a search gives is that of a record
-pub slot-given : (xs : List (ℕ × List ℕ)) (hash : ℕ) (matches : Matches) (next : Candidates) (slot : ℕ)
-    (left : List ℕ)
-    → IsLeft xs hash matches left
-    → ((slots : List ℕ) → search.IsLeft matches.candidates slots → (rest : List ℕ) × (slots ≡ slot ∷ rest)
-    × search.IsLeft next rest)
-    → IsSlot matches.is_long matches.records.now.list slot
-slot-given xs hash matches next slot left is gives =
-    let given = gives is.slots is.slots_left in
-    let here = IsSlot matches.is_long matches.records.now.list in
-    All-head here slot given.0 (subst (λ ss. All here ss) given.1 is.each_slot)
-
 -- when a search gives a slot, what was left is its record's number, if that has the hash, and the rest
 pub stepped : (xs : List (ℕ
     × List ℕ)) (hash : ℕ) (matches : Matches) (next : Candidates) (slot at : ℕ) (left : List ℕ)
     → at ≡ begin_of matches.is_long matches.records.now.list slot → IsLeft xs hash matches left
     → ((slots : List ℕ) → search.IsLeft matches.candidates slots → (rest : List ℕ) × (slots ≡ slot ∷ rest)
     × search.IsLeft next rest)
-    → Stepped xs hash (record matches { candidates = next }) at left
+    → Stepped xs hash (record matches { candidates = next }) slot at left
 stepped xs hash matches next slot at left begins is gives =
     let given = gives is.slots is.slots_left in
     let slots = given.0 in
@@ -66,9 +56,12 @@ stepped xs hash matches next slot at left begins is gives =
     let first : here slot = All-head here slot slots all in
     let now : left ≡ numbers_with hash bytes (at ∷ map begin slots) = grind (arith, common_steps) in
     let rest = numbers_with hash bytes (map begin slots) in
+    let at_is = subst (IsPosition rs) (sym begins) (slot-begins matches.is_long rs slot first) in
     record {
       rest = rest;
-      begins = subst (IsPosition rs) (sym begins) (slot-begins matches.is_long rs slot first);
+      slot_is = first;
+      begins = at_is;
+      there = there rs bytes at at_is.0 refl is.each is.few at_is.1 at_is.2;
       is = record {
         slots = slots;
         slots_left = given.2;

@@ -1,38 +1,30 @@
 use Rattle.std.proofs.lemmas.Grind.{common_steps}
-use Rattle.std.proofs.Common.{◌≡◌, ℕ, [], ◌∷◌, get_or, map, arith, ap, ◌∙◌, sym, subst}
+use Rattle.std.proofs.Common.{◌≡◌, ℕ, [], ◌∷◌, length, map, refl, arith, ap, ◌∙◌, sym, subst}
 use Rattle.std.specs.List.{concat}
 use Rattle.intaglio_records.specs.Header.{hash_at, number_at}
 use Rattle.intaglio_records.specs.Matches.{IsLeft, begin_of, numbers_with}
-use Rattle.intaglio_records.proofs.Reading.{there}
-use Rattle.intaglio_records.proofs.MatchLemmas.{found, slot-given, stepped}
+use Rattle.intaglio_records.proofs.MatchLemmas.{found, stepped}
 use Rattle.intaglio_records.proofs.matches.Matches.next.Goals as goal
 
 pub begin-at-requires : goal.begin-at-requires
 begin-at-requires c =
     let is = c.loop-slot.invariant.search in
-    slot-given is.0 is.1 c.loop-slot.self c.next.new.self c.in-Some.slot is.2 is.3 c.in-Some.ensures.gives
+    (stepped is.0 is.1 c.loop-slot.self c.next.new.self c.in-Some.slot _ is.2 refl is.3
+    c.in-Some.ensures.gives).slot_is
 
 pub read_hash-requires : goal.read_hash-requires
 read_hash-requires c =
-    let m = c.loop-slot.self in
     let is = c.loop-slot.invariant.search in
-    let at = stepped is.0 is.1 m c.next.new.self c.in-Some.slot c.begin-at.result is.2 c.begin-at.ensures is.3
+    let at = stepped is.0 is.1 c.loop-slot.self c.next.new.self c.in-Some.slot c.begin-at.result is.2 c.begin-at.ensures is.3
     c.in-Some.ensures.gives in
-    let rs = m.records.now.list in
-    let t = there rs c.bytes-bytes.result.now c.begin-at.result at.begins.0 c.bytes-bytes.ensures is.3.each
-    is.3.few at.begins.1 at.begins.2 in
-    omega (arith, t.within, t.long)
+    omega (arith, at.there.within, at.there.long, ap length c.bytes-bytes.ensures)
 
 pub read_number-requires : goal.read_number-requires
 read_number-requires c =
-    let m = c.loop-slot.self in
     let is = c.loop-slot.invariant.search in
-    let at = stepped is.0 is.1 m c.next.new.self c.in-Some.slot c.begin-at.result is.2 c.begin-at.ensures is.3
+    let at = stepped is.0 is.1 c.loop-slot.self c.next.new.self c.in-Some.slot c.begin-at.result is.2 c.begin-at.ensures is.3
     c.in-Some.ensures.gives in
-    let rs = m.records.now.list in
-    let t = there rs c.bytes-bytes.result.now c.begin-at.result at.begins.0 c.bytes-bytes.ensures is.3.each
-    is.3.few at.begins.1 at.begins.2 in
-    omega (arith, t.within, t.long)
+    omega (arith, at.there.within, at.there.long, ap length c.bytes-bytes.ensures)
 
 pub string_at-requires-clause-begins : goal.string_at-requires-clause-begins
 string_at-requires-clause-begins c =
@@ -46,30 +38,19 @@ returns-then-read_hash-self-clause-gives c xs hash left was =
     let is = c.loop-slot.invariant.left xs hash left was in
     let at = stepped xs hash m c.next.new.self c.in-Some.slot c.begin-at.result left c.begin-at.ensures is
     c.in-Some.ensures.gives in
-    let rs = m.records.now.list in
-    let bytes = c.bytes-bytes.ensures in
-    let t = there rs c.bytes-bytes.result.now c.begin-at.result at.begins.0 bytes is.each is.few at.begins.1
-    at.begins.2 in
-    let read : c.read_hash.result ≡ hash = c.if-read_hash-self.true ∙ is.hash_is in
-    let same : hash_at (concat rs) c.begin-at.result ≡ hash = grind (arith, common_steps) in
-    let number : number_at (concat rs) c.begin-at.result ≡ c.read_number.result =
-    ap (λ bs. number_at bs c.begin-at.result) (sym bytes) ∙ sym c.read_number.ensures in
-    let string = c.string_at.ensures at.begins.0 at.begins.1 at.begins.2 in
-    let hash_is : hash ≡ hash_at (get_or rs at.begins.0 []) 0 = sym read ∙ c.read_hash.ensures ∙ t.hash in (
+    let same = sym (rw c.bytes-bytes.ensures at c.read_hash.ensures) ∙ c.if-read_hash-self.true ∙ is.hash_is in
+    let number = rw c.bytes-bytes.ensures at c.read_number.ensures in (
       at.rest,
-      at.same same ∙ ap (λ n. n ∷ at.rest) number,
+      at.same same ∙ ap (λ n. n ∷ at.rest) (sym number),
       at.is,
-      found xs rs at.begins.0 c.read_number.result hash c.string_at.result.now is.list at.begins.1
-          (c.read_number.ensures ∙ t.number) hash_is string,
+      found xs m.records.now.list at.begins.0 c.read_number.result hash c.string_at.result.now is.list at.begins.1
+          (number ∙ at.there.number) (sym same ∙ at.there.hash)
+          (c.string_at.ensures at.begins.0 at.begins.1 at.begins.2),
     )
 
 pub loop-slot-preserved : goal.loop-slot-preserved
 loop-slot-preserved c =
     let m = c.loop-slot.self in
-    let apart =
-    λ (hash : ℕ) (e : m.hash ≡ hash) (same : hash_at (concat m.records.now.list) c.begin-at.result ≡ hash).
-    c.if-read_hash-self.false (c.read_hash.ensures
-    ∙ ap (λ bs. hash_at bs c.begin-at.result) c.bytes-bytes.ensures ∙ same ∙ sym e) in
     let is = c.loop-slot.invariant.search in
     let at = stepped is.0 is.1 m c.next.new.self c.in-Some.slot c.begin-at.result is.2 c.begin-at.ensures is.3
     c.in-Some.ensures.gives in
@@ -83,7 +64,8 @@ loop-slot-preserved c =
           subst (λ l. IsLeft xs hash (record m {
             candidates =
                 c.next.new.self;
-          }) l) (sym (next.other (apart hash now.hash_is))) next.is);
+          }) l) (sym (next.other (λ same. c.if-read_hash-self.false
+          (rw c.bytes-bytes.ensures at c.read_hash.ensures ∙ same ∙ sym now.hash_is)))) next.is);
       fewer = omega (arith, c.in-Some.ensures.fewer, c.loop-slot.invariant.fewer);
     }
 
