@@ -1,6 +1,6 @@
 -- Strings between ends.
 use Rattle.std.proofs.lemmas.Grind.{common_steps}
-use Rattle.std.proofs.Common.{sym, ◌≡◌, ℕ, ◌+◌, ◌-◌, ◌<◌, ◌≤◌, suc, zero, List, [], ◌∷◌, ◌++◌, length, take, drop, get_or, slice_get, slice_range, Some, refl, ap, ◌∙◌, arith, length-drop, length-take-le, sum_by}
+use Rattle.std.proofs.Common.{append_assoc, length-append, take_all, sym, ◌≡◌, ℕ, ◌+◌, ◌-◌, ◌<◌, ◌≤◌, suc, zero, List, [], ◌∷◌, ◌++◌, length, take, drop, get_or, slice_get, slice_range, Some, refl, ap, ◌∙◌, arith, length-drop, length-take-le, sum_by}
 use Rattle.std.specs.List.{concat}
 use Rattle.std.proofs.lemmas.List.{drop_all, drop-drop, take-append-drop, drop-take, take-take}
 use Rattle.std.proofs.lemmas.List.Sums.{sum_by-cons}
@@ -132,3 +132,6 @@ concat-strings at bytes (e ∷ es) h =
     drop-drop (e - at) at bytes ∙ ap (λ n. drop n bytes) (omega (arith, h.0)) in
     ap (λ xs. slice_range bytes at e ++ xs) (concat-strings e bytes es h.1 ∙ sym rest)
     ∙ take-append-drop (e - at) (drop at bytes)
+
+-- what the proofs of calls of a buffer use
+pub ruleset buffer_rules = (common_steps, strings_length, ends-at, strings-at, byte_room-is, start-is, append_assoc, length-append, ends-push, strings-push, starts-within, length-take-le, ends-take, strings-take, take_all, sum-lengths, concat-strings)

@@ -1,6 +1,7 @@
 -- Entries of records.
 use Rattle.std.proofs.lemmas.Grind.{common_steps}
-use Rattle.std.proofs.Common.{◌≡◌, ℕ, ◌+◌, ◌<◌, ◌≤◌, suc, zero, Bool, List, [], ◌∷◌, ◌++◌, length, take, map, get_or, slice_get, Some, min, sum_by, refl, sym, ap, ◌∙◌, arith, take_all}
+use Rattle.std.proofs.lemmas.Bool.{not-false}
+use Rattle.std.proofs.Common.{not, ◌≡◌, ℕ, ◌+◌, ◌<◌, ◌≤◌, suc, zero, Bool, List, [], ◌∷◌, ◌++◌, length, take, map, get_or, slice_get, Some, min, sum_by, refl, sym, ap, ◌∙◌, arith, take_all}
 use Rattle.std.proofs.lemmas.List.{get_or-map, get_or-take, get_or_append_left, length-append, length-drop, length-map, length-take, take-append-le, take-take}
 use Rattle.std.proofs.lemmas.List.Sums.{sum_by-cons}
 use Rattle.std.proofs.lemmas.Option.{get_or_from_slice_get}
@@ -8,7 +9,7 @@ use Rattle.std.proofs.Math.Seq.{get_or-append_seam}
 use Rattle.intaglio_records.specs.Header.{hash_at}
 use Rattle.intaglio_records.specs.Records.{pair_of}
 use Rattle.intaglio_records.specs.Entries.{entries, entries_of, position, size_of, slot_of}
-use Rattle.intaglio_records.proofs.RecordLemmas.{AreLong}
+use Rattle.intaglio_records.proofs.RecordLemmas.{AreLong, are-long}
 
 -- there are n entries of n records
 pub length-entries : (long : Bool) (rs : List (List ℕ)) (n : ℕ) → length (entries long rs n) ≡ n
@@ -115,3 +116,6 @@ entries-cut long m xs = ap (entries_of long (take m xs)) (length-take m xs)
 pub length-entries_of : (long : Bool) (xs : List (ℕ × List ℕ)) (n : ℕ) → length (entries_of long xs n) ≡ n
 length-entries_of long xs zero = refl
 length-entries_of long xs (suc n) = ap suc (length-entries_of long xs n)
+
+-- what the proofs of calls of an index use
+pub ruleset entry_rules = (common_steps, entries-all, are-long, not, not-false, length-entries_of, sizes-all, sum_by, length-map, entries-push, length-append, entries-first, entries-cut, length-take)

@@ -42,14 +42,6 @@ kept-by-slot tags slots (e ∷ es) i x le are =
       kept-by-slot tags slots es i x (omega arith) are.2,
     )
 
--- the tag and the slot of an entry, written behind fewer than eleven others of a line, add it to the line
-pub line-put : (line : Line) (es : List Entry) (next count tag slot hash : ℕ) → count < 11 →
-    IsLine line es next → count ≡ length es → tag ≡ tag_of hash →
-    IsLine (record { tags = set line.tags count tag; slots = set line.slots count slot })
-    ((hash, slot) ∷ es) next
-line-put line es next count tag slot hash few is at is_tag =
-    grind (arith, common_steps, get_or-set_same, kept-by-slot, kept-by-tag, get_or-set_other, length-set)
-
 -- a line whose newest entry's tag is set to 0 has the entries before it
 pub line-remove : (line : Line) (e : Entry) (es : List Entry) (next count : ℕ) → count < 11 →
     IsLine line (e ∷ es) next → count ≡ length es →
@@ -68,7 +60,5 @@ line-remove line e es next count few is at =
       slots = is.slots;
     }
 
--- a line whose slot 11 is written keeps its entries and leads to the line with that number
-pub line-next : (line : Line) (es : List Entry) (old next : ℕ) → IsLine line es old →
-    IsLine (record { tags = line.tags; slots = set line.slots 11 next }) es next
-line-next line es old next is = grind (arith, common_steps, kept-by-slot, get_or-set_same, length-set)
+-- what the proofs of calls of a line use
+pub ruleset line_rules = (common_steps, get_or-set_same, kept-by-slot, kept-by-tag, get_or-set_other, length-set)

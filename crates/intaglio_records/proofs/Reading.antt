@@ -82,3 +82,6 @@ there rs bytes at i all each few l e =
       number = number-there rs i l r.long ∙ r.number_is ∙ small;
       hash = hash-there rs i l r.long;
     })
+
+-- what the proofs of reading of records use
+pub ruleset reading_rules = (there, string-there, slice_range)

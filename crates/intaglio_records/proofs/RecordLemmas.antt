@@ -1,9 +1,9 @@
 -- Lists of records.
 use Rattle.std.proofs.lemmas.Grind.{common_steps}
-use Rattle.std.proofs.Common.{◌≡◌, ℕ, ◌+◌, ◌-◌, ◌*◌, ◌%◌, ◌^◌, ◌<◌, ◌≤◌, suc, zero, List, [], ◌∷◌, ◌++◌, length, take, drop, map, get_or, slice_get, Some, option_map, sum_by, refl, sym, ap, ◌∙◌, subst, arith, inl, inr}
+use Rattle.std.proofs.Common.{length-append, take_all, ◌≡◌, ℕ, ◌+◌, ◌-◌, ◌*◌, ◌%◌, ◌^◌, ◌<◌, ◌≤◌, suc, zero, List, [], ◌∷◌, ◌++◌, length, take, drop, map, get_or, slice_get, Some, option_map, sum_by, refl, sym, ap, ◌∙◌, subst, arith, inl, inr}
 use Rattle.std.specs.Prelude.{OnOk, OnErr, Result, Ok, Err, ◌⊎◌}
-use Rattle.std.proofs.lemmas.Bool.{cases_lt}
-use Rattle.std.proofs.lemmas.List.{get_or_append_left, length-drop}
+use Rattle.std.proofs.lemmas.Bool.{cases_lt, le-leb, leb-true}
+use Rattle.std.proofs.lemmas.List.{get_or_append_left, length-drop, length-map, take-map}
 use Rattle.std.proofs.lemmas.Option.{slice_get-map}
 use Rattle.std.proofs.lemmas.List.Sums.{sum_by-cons}
 use Rattle.intaglio_records.specs.Header.{header_of}
@@ -85,3 +85,10 @@ get-string rs i r is = slice_get-map (λ (p : ℕ × List ℕ). p.1) (map pair_o
 pub ok-or-err : {T E A B : Type 0} → (r : Result T E) → OnOk r A → OnErr r B → A ⊎ B
 ok-or-err (Ok _) a b = inl a
 ok-or-err (Err _) a b = inr b
+
+-- what the proofs of calls of records use
+pub ruleset record_rules = (common_steps, are-long, headers-within, strings-bytes, room-is, leb-true, le-leb)
+
+pub ruleset clear_rules = (common_steps, are-long, headers-within, room-is)
+
+pub ruleset list_rules = (common_steps, get-string, take_all, length-drop, record-made, length-append, length-map, records-push, take-map)

@@ -5,8 +5,8 @@ use Rattle.std.proofs.lemmas.Bool.{cases_lt}
 use Rattle.std.specs.Int.{IsPowerOfTwo}
 
 -- what is within 2^29 stays so
-pub rounded-within : (n p : ℕ) → IsPowerOfTwo p → p / 2 < max 1 n → n ≤ 2 ^ 29 → p ≤ 2 ^ 29
-rounded-within n p power least le =
+pub rounded_within : (n p : ℕ) → IsPowerOfTwo p → p / 2 < max 1 n → n ≤ 2 ^ 29 → p ≤ 2 ^ 29
+rounded_within n p power least le =
     elim (cases_lt power.0 29) [
       | inl low ↦ let below : 2 ^ power.0 < 2 ^ 29 = pow-lt low in omega (arith, power.1, below)
       | inr high ↦ elim (cases_lt 29 power.0) [

@@ -43,6 +43,7 @@ impl RecordIndex {
     /// # Errors
     ///
     /// [`AllocError`] if the allocation fails. It comes first, so no record was read then.
+    #[tactic(auto, using(crate::proofs::EntryLemmas::entry_rules))]
     pub fn over(records: &StringRecords, places: usize) -> Result<RecordIndex, AllocError>
         requires enough { length records.now.list ≤ places }
         requires few { places ≤ 2 ^ 32 }
@@ -135,6 +136,7 @@ impl RecordIndex {
     /// Enters the string that is added to the records next, with this hash. There must be a
     /// place for it. Nothing is allocated.
     #[inline(always)]
+    #[tactic(auto, using(crate::proofs::EntryLemmas::entry_rules))]
     pub fn place(&mut self, records: &StringRecords, hash: u64)
         requires over { IsOver records.now.list (record_room_of records.now) self.old }
         requires free { length records.now.list < made_for self.old }
@@ -148,6 +150,7 @@ impl RecordIndex {
     }
 
     /// Removes the strings behind the first `n`, before they are dropped from the records.
+    #[tactic(auto, using(crate::proofs::EntryLemmas::entry_rules))]
     pub fn truncate(&mut self, records: &StringRecords, n: usize)
         requires { IsOver records.now.list (record_room_of records.now) self.old }
         ensures over { IsOver (take n records.now.list) (record_room_of records.now) self.new }

@@ -78,6 +78,7 @@ impl Line {
     }
 
     /// Sets the number of the other line.
+    #[tactic(auto, using(crate::proofs::LineLemmas::line_rules))]
     pub fn set_next(&mut self, next: u32)
         ensures { (es : List Entry) (old : ℕ) → IsLine self.old es old → IsLine self.new es next }
     {
@@ -86,6 +87,7 @@ impl Line {
 
     /// Adds an entry behind the `count` that there are.
     #[inline(always)]
+    #[tactic(auto, using(crate::proofs::LineLemmas::line_rules))]
     pub fn put(&mut self, count: usize, tag: u8, slot: u32)
         requires { count < 11 }
         ensures { (es : List Entry) (next hash : ℕ) → IsLine self.old es next → count ≡ length es →

@@ -27,6 +27,7 @@ pub struct Lines {
 const MEAN: usize = 8;
 
 // How many first lines there are for so many entries.
+#[tactic(auto, using(std::proofs::lemmas::Grind::common_steps, crate::proofs::Rounded::rounded_within))]
 fn first_lines(places: usize) -> usize
     requires { places ≤ 2 ^ 32 }
     ensures power { 0 < result → IsPowerOfTwo result }

@@ -63,6 +63,7 @@ fn long_begin(records: &StringBuffer, number: usize) -> usize
 
 // The string of the record that begins at this byte.
 #[inline(always)]
+#[tactic(auto, using(std::proofs::lemmas::Grind::common_steps, crate::proofs::Reading::reading_rules))]
 fn string_at(records: &StringBuffer, at: usize) -> &[u8]
     requires begins { IsPosition records.now.list at }
     requires each { AreRecords records.now.list }

@@ -81,6 +81,7 @@ fn is_short_room(strings: usize, bytes: usize) -> bool
     }
 }
 
+#[tactic(auto, using(crate::proofs::RecordLemmas::record_rules))]
 impl StringRecords {
     /// An empty list, which allocates nothing.
     pub fn new(alloc: Global) -> StringRecords
@@ -236,6 +237,7 @@ impl StringRecords {
 
     /// A string that is there.
     #[inline(always)]
+    #[tactic(auto, using(crate::proofs::RecordLemmas::list_rules))]
     pub fn string(&self, i: usize) -> &[u8]
         requires { i < length self.now.list }
         ensures { slice_get (strings_of self.now) i ≡ Some result.now }
@@ -371,6 +373,7 @@ impl StringRecords {
 
     /// Adds a string with its hash, for which there is room.
     #[inline(always)]
+    #[tactic(auto, using(crate::proofs::RecordLemmas::list_rules))]
     pub fn push_hashed(&mut self, hash: u64, string: &[u8])
         requires { HasRoom (length string.now) self.old }
         ensures list { self.new.list ≡ self.old.list ++ (hash, string.now) ∷ [] }
@@ -385,6 +388,7 @@ impl StringRecords {
     }
 
     /// Drops all strings but the first `n`.
+    #[tactic(auto, using(crate::proofs::RecordLemmas::list_rules))]
     pub fn truncate(&mut self, n: usize)
         ensures list { self.new.list ≡ take n self.old.list }
         ensures most { self.new.most ≡ self.old.most }
@@ -395,6 +399,7 @@ impl StringRecords {
     }
 
     /// Drops all strings.
+    #[tactic(auto, using(crate::proofs::RecordLemmas::clear_rules))]
     pub fn clear(&mut self)
         ensures list { self.new.list ≡ [] }
         ensures most { self.new.most ≡ self.old.most }

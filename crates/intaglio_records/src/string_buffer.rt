@@ -49,7 +49,7 @@ impl Model for StringBuffer {
     } };
 }
 
-#[tactic(auto, using(crate::proofs::Ends::strings_length))]
+#[tactic(auto, using(crate::proofs::Ends::buffer_rules))]
 impl StringBuffer {
     /// An empty list, which allocates nothing.
     pub fn new(alloc: Global) -> StringBuffer

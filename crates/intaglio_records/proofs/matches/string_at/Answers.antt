@@ -1,6 +1,5 @@
-use Rattle.std.proofs.lemmas.Grind.{common_steps}
-use Rattle.std.proofs.Common.{slice_range, arith}
-use Rattle.intaglio_records.proofs.Reading.{there, string-there}
+use Rattle.std.proofs.Common.{arith}
+use Rattle.intaglio_records.proofs.Reading.{there}
 use Rattle.intaglio_records.proofs.matches.string_at.Goals as goal
 
 pub overflow_add-length : goal.overflow_add-length
@@ -38,9 +37,3 @@ long_string-requires-clause-there c =
     let t = there c.args.records.now.list c.bytes-bytes.result.now c.args.at c.requires.begins.0
     c.bytes-bytes.ensures c.requires.each c.requires.few c.requires.begins.1 c.requires.begins.2 in
     omega (arith, t, c.bytes-bytes.type_inv, t.number, c.read_number.ensures, c.requires.begins.1)
-
-pub returns-then-length-eq-LONG : goal.returns-then-length-eq-LONG
-returns-then-length-eq-LONG c i l e = grind (arith, common_steps, there)
-
-pub returns : goal.returns
-returns c i l e = grind (arith, common_steps, there, slice_range, string-there)

@@ -1,7 +1,5 @@
-use Rattle.std.proofs.lemmas.Grind.{common_steps}
-use Rattle.std.proofs.Common.{◌≡◌, ℕ, [], ◌∷◌, length, map, refl, arith, ap, ◌∙◌, sym, subst}
+use Rattle.std.proofs.Common.{◌∷◌, length, map, refl, arith, ap, ◌∙◌, sym, subst}
 use Rattle.std.specs.List.{concat}
-use Rattle.intaglio_records.specs.Header.{hash_at, number_at}
 use Rattle.intaglio_records.specs.Matches.{IsLeft, begin_of, numbers_with}
 use Rattle.intaglio_records.proofs.MatchLemmas.{found, stepped}
 use Rattle.intaglio_records.proofs.matches.Matches.next.Goals as goal

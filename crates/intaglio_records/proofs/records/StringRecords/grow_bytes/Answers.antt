@@ -4,9 +4,6 @@ use Rattle.std.proofs.lemmas.Result.{on_ok_weaker}
 use Rattle.intaglio_records.proofs.RecordLemmas.{are-long, ok-or-err, strings-bytes, strings_in}
 use Rattle.intaglio_records.proofs.records.StringRecords.grow_bytes.Goals as goal
 
-pub overflow_sub-needed : goal.overflow_sub-needed
-overflow_sub-needed c = grind (arith, common_steps, are-long, strings-bytes)
-
 pub returns-clause-bytes : goal.returns-clause-bytes
 returns-clause-bytes c = grind (arith, common_steps, are-long, strings-bytes, on_ok_weaker)
 

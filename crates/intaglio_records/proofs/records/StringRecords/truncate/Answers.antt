@@ -1,6 +1,6 @@
 use Rattle.std.proofs.lemmas.Grind.{common_steps}
 use Rattle.std.proofs.Common.{arith}
-use Rattle.std.proofs.lemmas.List.{length-take, take-map}
+use Rattle.std.proofs.lemmas.List.{length-take}
 use Rattle.intaglio_records.proofs.RecordLemmas.{are-long, headers-behind, records-take, room-is}
 use Rattle.intaglio_records.proofs.records.StringRecords.truncate.Goals as goal
 
@@ -16,9 +16,6 @@ invariant_of-self c =
       headers = grind (arith, common_steps);
       small = omega (arith, room, c.self.invariant.small);
     })
-
-pub returns-clause-list : goal.returns-clause-list
-returns-clause-list c = grind (arith, common_steps, take-map)
 
 pub returns-clause-spare_bytes : goal.returns-clause-spare_bytes
 returns-clause-spare_bytes c =
