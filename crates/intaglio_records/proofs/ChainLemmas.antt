@@ -12,33 +12,20 @@ use Rattle.intaglio_records.specs.Chains.{Overflow, newest_length, add, newest, 
 -- adding an entry to an overflow line leaves the number of these lines
 pub add-length : (c : ℕ) (e : Entry) (os : List Overflow) → length (add c e os) ≡ length os
 add-length c e [] = refl
-add-length c e (o ∷ os) =
-    elim (eqb_tells o.0 c) [
-      | inl h ↦ rw h.0 refl
-      | inr h ↦ rw h.0 (ap suc (add-length c e os))
-    ]
+add-length c e (o ∷ os) = grind (arith, common_steps, eqb_tells, add-length c e os)
 
 -- an added entry moves no line
 pub newest-add : (base k c : ℕ) (e : Entry) (os : List Overflow) →
     newest base k (add c e os) ≡ newest base k os
 newest-add base k c e [] = refl
-newest-add base k c e (o ∷ os) =
-    elim (eqb_tells o.0 c) [
-      | inl h ↦ rw h.0 refl
-      | inr h ↦ rw (h.0, add-length c e os, newest-add base k c e os) refl
-    ]
+newest-add base k c e (o ∷ os) = grind (arith, common_steps, eqb_tells, add-length c e os, newest-add base k c e os)
 
 -- the number of a class's newest overflow line, if it isn't 0, comes behind the first lines. If there is a first
 -- line or that number isn't 0, it is below the number of lines
 pub newest-at : (base c : ℕ) (os : List Overflow) → (0 < newest base c os → base ≤ newest base c os)
     × (0 < base + newest base c os → newest base c os < base + length os)
 newest-at base c [] = (λ some. omega (arith, some), λ some. omega (arith, some))
-newest-at base c (o ∷ os) =
-    let rest = newest-at base c os in
-    elim (eqb_tells o.0 c) [
-      | inl h ↦ rw h.0 (λ _. omega arith, λ _. omega arith)
-      | inr h ↦ rw h.0 (rest.0, λ some. omega (arith, rest.1 some))
-    ]
+newest-at base c (o ∷ os) = grind (arith, common_steps, eqb_tells, newest-at base c os)
 
 -- lines that have the overflow lines' elements have the overflow lines
 pub behind-same : (base : ℕ) (lines more : List Line) (os : List Overflow) →

@@ -31,9 +31,7 @@ pub strings-push : (at : ℕ) (bytes es more : List ℕ) → AreEnds at (length 
     strings_from at (bytes ++ more) (es ++ (length bytes + length more) ∷ []) ≡ strings_from at bytes es
     ++ more ∷ []
 strings-push at bytes [] more h = rw h (ap (λ x. x ∷ []) (range-added bytes more))
-strings-push at bytes (e ∷ es) more h =
-    rw (range-append bytes more at e h.0 (ends-within e (length bytes) es h.1))
-    (ap (λ xs. slice_range bytes at e ∷ xs) (strings-push e bytes es more h.1))
+strings-push at bytes (e ∷ es) more h = grind (arith, common_steps, range-append, ends-within e (length bytes) es h.1, strings-push e bytes es more h.1)
 
 -- if bytes are added, the ends with the new length behind them are ends of all bytes
 pub ends-push : (at all more : ℕ) (es : List ℕ) → AreEnds at all es →
@@ -65,10 +63,7 @@ strings-at at bytes (e ∷ es) (suc i) l = strings-at e bytes es i (omega arith)
 -- the first n strings
 range-take : (bytes : List ℕ) (m a b : ℕ) → a ≤ b → b ≤ m →
     slice_range (take m bytes) a b ≡ slice_range bytes a b
-range-take bytes m a b ab l =
-    let all : take m bytes ≡ take (a + (m - a)) bytes = ap (λ n. take n bytes) (omega arith) in
-    let le : b - a ≤ m - a = omega arith in
-    rw (all, drop-take a (m - a) bytes) (take-take (b - a) (m - a) (drop a bytes) le)
+range-take bytes m a b ab l = grind (arith, common_steps, drop-take a (m - a) bytes, take-take (b - a) (m - a) (drop a bytes))
 
 -- the first n strings are those of the first n ends, in any front of the bytes that reaches the last of these
 pub strings-take : (at all : ℕ) (bytes es : List ℕ) (n m : ℕ) → AreEnds at all es → n ≤ length es →
@@ -76,10 +71,7 @@ pub strings-take : (at all : ℕ) (bytes es : List ℕ) (n m : ℕ) → AreEnds 
     strings_from at (take m bytes) (take n es) ≡ take n (strings_from at bytes es)
 strings-take at all bytes es zero m h l e = refl
 strings-take at all bytes [] (suc n) m h l e = refl
-strings-take at all bytes (x ∷ es) (suc n) m h l e =
-    let within : x ≤ get_or (x ∷ es) n 0 = at-below x all es n h.1 (omega arith) in
-    rw (range-take bytes m at x h.0 (omega arith))
-    (ap (λ xs. slice_range bytes at x ∷ xs) (strings-take x all bytes es n m h.1 (omega arith) e))
+strings-take at all bytes (x ∷ es) (suc n) m h l e = grind (arith, common_steps, range-take, at-below x all es n h.1 (omega arith), strings-take x all bytes es n m h.1 (omega arith) e)
 
 -- the first n ends are ends of the bytes up to the last of them
 pub ends-take : (at all : ℕ) (es : List ℕ) (n : ℕ) → AreEnds at all es → n ≤ length es →
@@ -99,24 +91,14 @@ starts-within at all (e ∷ es) (suc n) h l = starts-within e all es n h.1 (omeg
 pub sum-lengths : (at : ℕ) (bytes es : List ℕ) →
     AreEnds at (length bytes) es → at + sum_by length (strings_from at bytes es) ≡ length bytes
 sum-lengths at bytes [] h = omega (arith, h)
-sum-lengths at bytes (e ∷ es) h =
-    let within = ends-within e (length bytes) es h.1 in
-    let one : length (slice_range bytes at e) ≡ e - at =
-    length-take-le (e - at) (drop at bytes) (omega (arith, length-drop at bytes)) in
-    let parts = sum_by-cons length (slice_range bytes at e) (strings_from e bytes es) in
-    omega (arith, h.0, one, parts, within, sum-lengths e bytes es h.1)
+sum-lengths at bytes (e ∷ es) h = grind (arith, common_steps, sum_by-cons, length-take-le, length-drop, ends-within e (length bytes) es h.1, sum-lengths e bytes es h.1)
 
 -- a string begins behind the lengths of those before it
 pub start-is : (at : ℕ) (bytes es : List ℕ) (i : ℕ) → AreEnds at (length bytes) es → i ≤ length es →
     get_or (at ∷ es) i 0 ≡ at + sum_by length (take i (strings_from at bytes es))
 start-is at bytes es zero h l = omega arith
 start-is at bytes [] (suc i) h l = absurd (omega (arith, l))
-start-is at bytes (e ∷ es) (suc i) h l =
-    let within = ends-within e (length bytes) es h.1 in
-    let one : length (slice_range bytes at e) ≡ e - at =
-    length-take-le (e - at) (drop at bytes) (omega (arith, length-drop at bytes, within)) in
-    let parts = sum_by-cons length (slice_range bytes at e) (take i (strings_from e bytes es)) in
-    omega (arith, h.0, one, parts, start-is e bytes es i h.1 (omega (arith, l)))
+start-is at bytes (e ∷ es) (suc i) h l = grind (arith, common_steps, sum_by-cons, length-take-le, length-drop, ends-within e (length bytes) es h.1, start-is e bytes es i h.1 (omega (arith, l)))
 
 -- the room for bytes in total is the buffer's capacity
 pub byte_room-is : (capacity : ℕ) (bytes es : List ℕ) → AreEnds 0 (length bytes) es → length bytes ≤ capacity
@@ -127,11 +109,7 @@ byte_room-is capacity bytes es h within = omega (arith, sum-lengths 0 bytes es h
 pub concat-strings : (at : ℕ) (bytes es : List ℕ) → AreEnds at (length bytes) es →
     concat (strings_from at bytes es) ≡ drop at bytes
 concat-strings at bytes [] h = sym (drop_all at bytes (omega (arith, h)))
-concat-strings at bytes (e ∷ es) h =
-    let rest : drop (e - at) (drop at bytes) ≡ drop e bytes =
-    drop-drop (e - at) at bytes ∙ ap (λ n. drop n bytes) (omega (arith, h.0)) in
-    ap (λ xs. slice_range bytes at e ++ xs) (concat-strings e bytes es h.1 ∙ sym rest)
-    ∙ take-append-drop (e - at) (drop at bytes)
+concat-strings at bytes (e ∷ es) h = grind (arith, common_steps, concat-strings e bytes es h.1, take-append-drop (e - at) (drop at bytes), drop-drop (e - at) at bytes)
 
 -- what the proofs of calls of a buffer use
 pub ruleset buffer_rules = (common_steps, strings_length, ends-at, strings-at, byte_room-is, start-is, append_assoc, length-append, ends-push, strings-push, starts-within, length-take-le, ends-take, strings-take, take_all, sum-lengths, concat-strings)

@@ -20,12 +20,7 @@ length-entries long rs (suc n) = ap suc (length-entries long rs n)
 pub entry-more : (long : Bool) (rs : List (List ℕ)) (n hash : ℕ) (r : List ℕ) → slice_get rs n ≡ Some r
     → hash ≡ hash_at r 0
     → entries long rs (n + 1) ≡ (hash, slot_of long n (position rs n)) ∷ entries long rs n
-entry-more long rs n hash r is h =
-    let e : n + 1 ≡ suc n = omega arith in
-    ap (entries long rs) e ∙ ap (λ x. (
-      x,
-      slot_of long n (position rs n),
-    ) ∷ entries long rs n) (ap (λ x. hash_at x 0) (get_or_from_slice_get rs n r [] is) ∙ sym h)
+entry-more long rs n hash r is h = grind (arith, common_steps, get_or_from_slice_get rs n r [] is)
 
 -- where the entries of strings and of their records say that these begin
 begins-same : (rs : List (List ℕ)) (n : ℕ) → AreLong rs →
@@ -40,11 +35,7 @@ begins-same (r ∷ rs) (suc n) long =
 pub entries-same : (is_long : Bool) (rs : List (List ℕ)) (n : ℕ) → AreLong rs → n ≤ length rs
     → entries_of is_long (map pair_of rs) n ≡ entries is_long rs n
 entries-same is_long rs zero long l = refl
-entries-same is_long rs (suc n) long l =
-    let within : n < length rs = omega (arith, l) in
-    let hash : (get_or (map pair_of rs) n (0, [])).0 ≡ hash_at (get_or rs n []) 0 =
-    ap (λ (p : ℕ × List ℕ). p.0) (get_or-map pair_of rs n [] (0, []) within) in
-    rw (hash, begins-same rs n long, entries-same is_long rs n long (omega (arith, l))) refl
+entries-same is_long rs (suc n) long l = grind (arith, common_steps, get_or-map, begins-same rs n long, entries-same is_long rs n long)
 
 -- of the first n
 pub entries-first : (is_long : Bool) (xs : List (ℕ × List ℕ)) (rs : List (List ℕ)) (n : ℕ) →
@@ -81,14 +72,7 @@ sizes-all xs rs same long = rw (← same) (sizes-same rs long)
 pub entries-append : (long : Bool) (xs : List (ℕ × List ℕ)) (x : ℕ × List ℕ) (n : ℕ) → n ≤ length xs
     → entries_of long (xs ++ x ∷ []) n ≡ entries_of long xs n
 entries-append long xs x zero l = refl
-entries-append long xs x (suc n) l =
-    let within : n < length xs = omega arith in
-    let before : n ≤ length xs = omega arith in
-    rw (
-      get_or_append_left xs (x ∷ []) (0, []) n within,
-      take-append-le n xs (x ∷ []) before,
-      entries-append long xs x n before,
-    ) refl
+entries-append long xs x (suc n) l = grind (arith, common_steps, get_or_append_left, take-append-le, entries-append long xs x n)
 
 -- with that of the string that is added
 pub entries-push : (long : Bool) (xs : List (ℕ × List ℕ)) (x : ℕ × List ℕ) (at : ℕ) → at ≡ sum_by size_of xs
@@ -101,10 +85,7 @@ entries-push long xs x at a =
 pub entries-take : (long : Bool) (m : ℕ) (xs : List (ℕ × List ℕ)) (n : ℕ) → n ≤ m
     → entries_of long (take m xs) n ≡ entries_of long xs n
 entries-take long m xs zero l = refl
-entries-take long m xs (suc n) l =
-    let within : n < m = omega arith in
-    let before : n ≤ m = omega arith in
-    rw (get_or-take m xs n (0, []) within, take-take n m xs before, entries-take long m xs n before) refl
+entries-take long m xs (suc n) l = grind (arith, common_steps, get_or-take, take-take, entries-take long m xs n)
 
 -- so the entries of the first m strings are the first m entries
 pub entries-cut : (long : Bool) (m : ℕ) (xs : List (ℕ × List ℕ))

@@ -20,14 +20,7 @@ inserted one front behind =
 slots-other : (k c tag : ℕ) (e : Entry) (os : List Overflow) → k ≢ c →
     overflow_slots k tag (add c e os) ≡ overflow_slots k tag os
 slots-other k c tag e [] other = refl
-slots-other k c tag e (o ∷ os) other =
-    elim (eqb_tells o.0 c) [
-      | inl h ↦ (let apart = ne_eqb o.0 k (λ same. other (sym same ∙ h.1)) in rw (h.0, apart) refl)
-      | inr h ↦ elim (eqb_tells o.0 k) [
-        | inl at ↦ rw (h.0, at.0) (ap (λ rest. slots_with tag o.1 ++ rest) (slots-other k c tag e os other))
-        | inr at ↦ rw (h.0, at.0) (slots-other k c tag e os other)
-      ]
-    ]
+slots-other k c tag e (o ∷ os) other = grind (arith, common_steps, eqb_tells, slots-other k c tag e os other)
 
 -- the slot of an entry, if it has the tag
 abbrev one_of : ℕ → Entry → List ℕ
@@ -37,11 +30,7 @@ one_of tag e = cond (tag_of e.0 == tag) (e.1 ∷ []) []
 slots-here : (base c tag : ℕ) (e : Entry) (os : List Overflow) → 0 < newest base c os →
     IsPermutation (one_of tag e ++ overflow_slots c tag os) (overflow_slots c tag (add c e os))
 slots-here base c tag e [] some = absurd (omega (arith, some))
-slots-here base c tag e (o ∷ os) some =
-    elim (eqb_tells o.0 c) [
-      | inl h ↦ rw (h.0, h.0) (inserted (one_of tag e) (slots_with tag o.1) (overflow_slots c tag os))
-      | inr h ↦ rw (h.0, h.0) (slots-here base c tag e os (rw h.0 at some))
-    ]
+slots-here base c tag e (o ∷ os) some = grind (arith, common_steps, eqb_tells, inserted, slots-here base c tag e os)
 
 -- one more entry doesn't change the overflow slots of another class
 overflow_slots-other : (base k tag : ℕ) (e : Entry) (es : List Entry) → k ≢ e.0 % base →

@@ -39,25 +39,12 @@ behind-remove base c n e lines x (o ∷ os) is some le cut are =
 length-add : (k c : ℕ) (e : Entry) (os : List Overflow) → 0 < newest_length k os →
     0 < newest_length k (add c e os)
 length-add k c e [] some = some
-length-add k c e (o ∷ os) some =
-    elim (eqb_tells o.0 c) [
-      | inl h ↦ grind (arith, common_steps)
-      | inr h ↦ elim (eqb_tells o.0 k) [
-        | inl at ↦ rw (h.0, at.0) (rw at.0 at some)
-        | inr at ↦ rw (h.0, at.0) (length-add k c e os (rw at.0 at some))
-      ]
-    ]
+length-add k c e (o ∷ os) some = grind (arith, common_steps, eqb_tells, length-add k c e os)
 
 -- no newest overflow line of a class is empty
 pub length-some : (base k : ℕ) (es : List Entry) → 0 < newest_length k (overflow base es)
 length-some base k [] = omega arith
-length-some base k (e ∷ es) =
-    let c = e.0 % base in let os = overflow base es in
-    let old = length-some base k es in
-    elim (cases_lt (length (first_line base c es)) 11) [
-      | inl lt ↦ rw (overflow-same base e es lt) old
-      | inr full ↦ grind (arith, common_steps, cases_lt, overflow-add, length-add, overflow-new, eqb_tells)
-    ]
+length-some base k (e ∷ es) = grind (arith, common_steps, cases_lt, overflow-same, overflow-add, length-add, overflow-new, eqb_tells, length-some base k es)
 
 -- in which line of its class k the newest entry is
 pub data IsIn (base k : ℕ) (e : Entry) (es : List Entry) : Type 0 where

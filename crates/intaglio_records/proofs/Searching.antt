@@ -15,8 +15,7 @@ use Rattle.intaglio_records.specs.Search.{slots_with, overflow_slots, picked, bi
 pub picked-none : (bits : ℕ) (slots : List ℕ) (n : ℕ) → ((i : ℕ) → i < n → bit_at bits i ≡ 0) →
     picked bits slots n ≡ []
 picked-none bits slots zero none = refl
-picked-none bits slots (suc n) none =
-    rw (picked-none bits slots n (λ i lt. none i (omega (arith, lt))), none n (omega arith)) refl
+picked-none bits slots (suc n) none = grind (arith, common_steps, picked-none bits slots n, none n)
 
 -- the lowest bit is set
 pub picked-first : (bits fewer : ℕ) (slots : List ℕ) (p n : ℕ) → p < n → bit_at bits p ≡ 1 →
@@ -44,13 +43,7 @@ pub picked-fresh : (bits tag : ℕ) (tags slots : List ℕ) (es : List Entry) �
     ((i : ℕ) → i < length es → bit_at bits i ≡ cond (get_or tags i 0 == tag) 1 0) →
     picked bits slots (length es) ≡ slots_with tag es
 picked-fresh bits tag tags slots [] are is = refl
-picked-fresh bits tag tags slots (e ∷ es) are is =
-    let rest = picked-fresh bits tag tags slots es are.2 (λ i lt. is i (omega (arith, lt))) in
-    let bit : bit_at bits (length es) ≡ cond (tag_of e.0 == tag) 1 0 =
-    is (length es) (omega arith) ∙ ap (λ g. cond (g == tag) 1 0) are.0 in
-    ap (λ front. front ++ cond (bit_at bits (length es) == 1) (get_or slots (length es) 0 ∷ []) []) rest
-    ∙ ap (λ slot. slots_with tag es ++ cond (bit_at bits (length es) == 1) (slot ∷ []) []) are.1
-    ∙ pick-same (tag_of e.0) tag (bit_at bits (length es)) (slots_with tag es) e.1 bit
+picked-fresh bits tag tags slots (e ∷ es) are is = grind (arith, common_steps, is (length es), picked-fresh bits tag tags slots es are.2)
 
 -- only entries have a tag
 pub bits-within : (line : Line) (es : List Entry) (next bits tag : ℕ) → IsLine line es next → 0 < tag →
@@ -78,11 +71,7 @@ next-line base c tag lines (o ∷ os) are some =
 pub overflow-none : (base c tag : ℕ) (os : List Overflow) → 0 < base → newest base c os ≡ 0 →
     overflow_slots c tag os ≡ []
 overflow-none base c tag [] some none = refl
-overflow-none base c tag (o ∷ os) some none =
-    elim (eqb_tells o.0 c) [
-      | inl h ↦ absurd (omega (arith, some, rw h.0 at none))
-      | inr h ↦ rw h.0 (overflow-none base c tag os some (rw h.0 at none))
-    ]
+overflow-none base c tag (o ∷ os) some none = grind (arith, common_steps, eqb_tells, overflow-none base c tag os some)
 
 -- the next line of a search, if its number isn't 0, is one of the lines
 pub next-inside : (search : Candidates) (left : List ℕ) (is : IsLeft search left) → search.next ≢ 0 →
@@ -101,20 +90,10 @@ bits-few bits (suc n) = omega (arith, bits-few bits n, bit_at-lt bits n)
 bits-same : (bits fewer n : ℕ) → ((i : ℕ) → i < n → bit_at fewer i ≡ bit_at bits i) →
     bits_below fewer n ≡ bits_below bits n
 bits-same bits fewer zero same = refl
-bits-same bits fewer (suc n) same =
-    omega (arith, bits-same bits fewer n (λ i l. same i (omega (arith, l))), same n (omega arith))
+bits-same bits fewer (suc n) same = grind (arith, common_steps, same n, bits-same bits fewer n)
 
 -- fewer are set once one of them is cleared
 pub bits-fewer : (bits fewer p n : ℕ) → p < n → bit_at bits p ≡ 1 → bit_at fewer p ≡ 0
     → ((i : ℕ) → i < n → i ≢ p → bit_at fewer i ≡ bit_at bits i) → bits_below fewer n < bits_below bits n
 bits-fewer bits fewer p zero lt here gone others = absurd (omega (arith, lt))
-bits-fewer bits fewer p (suc n) lt here gone others = elim (cases_eq n p) [
-  | inl last ↦ grind (arith, common_steps, bits-same)
-  | inr other ↦
-      (let low : p < n = omega (arith, lt, other) in
-      omega (
-        arith,
-        others n (omega arith) other,
-        bits-fewer bits fewer p n low here gone (λ i l. others i (omega (arith, l))),
-      ))
-]
+bits-fewer bits fewer p (suc n) lt here gone others = grind (arith, common_steps, cases_eq n p, bits-same, others n, bits-fewer bits fewer p n)

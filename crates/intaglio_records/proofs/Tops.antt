@@ -44,31 +44,19 @@ overflow-new base e es full none = grind (arith, common_steps)
 length-other : (k c : ℕ) (e : Entry) (os : List Overflow) → k ≢ c →
     newest_length k (add c e os) ≡ newest_length k os
 length-other k c e [] other = refl
-length-other k c e (o ∷ os) other =
-    elim (eqb_tells o.0 c) [
-      | inl h ↦ (let apart = ne_eqb o.0 k (λ same. other (sym same ∙ h.1)) in rw (h.0, apart) refl)
-      | inr h ↦ rw (h.0, length-other k c e os other) refl
-    ]
+length-other k c e (o ∷ os) other = grind (arith, common_steps, eqb_tells, length-other k c e os other)
 
 -- an entry that is added to the newest overflow line of its class makes that longer by one
 pub length-here : (base c : ℕ) (e : Entry) (os : List Overflow) → 0 < newest base c os →
     newest_length c (add c e os) ≡ suc (newest_length c os)
 length-here base c e [] some = absurd (omega (arith, some))
-length-here base c e (o ∷ os) some =
-    elim (eqb_tells o.0 c) [
-      | inl h ↦ rw (h.0, h.0) refl
-      | inr h ↦ rw (h.0, h.0) (length-here base c e os (rw h.0 at some))
-    ]
+length-here base c e (o ∷ os) some = grind (arith, common_steps, eqb_tells, length-here base c e os)
 
 -- if there is a first line, and the newest overflow line of a class has number 0, it counts as full
 pub length-none : (base c : ℕ) (os : List Overflow) → 0 < base → newest base c os ≡ 0 →
     newest_length c os ≡ 11
 length-none base c [] some none = refl
-length-none base c (o ∷ os) some none =
-    elim (eqb_tells o.0 c) [
-      | inl h ↦ absurd (omega (arith, some, rw h.0 at none))
-      | inr h ↦ rw h.0 (length-none base c os some (rw h.0 at none))
-    ]
+length-none base c (o ∷ os) some none = grind (arith, common_steps, eqb_tells, length-none base c os some)
 
 -- one more entry doesn't change which overflow line of another class is the newest
 newest-other : (base k : ℕ) (e : Entry) (es : List Entry) → k ≢ e.0 % base →
@@ -134,12 +122,7 @@ top-more base e es room =
 -- a top line has at most eleven entries
 pub top-few : (base c : ℕ) (es : List Entry) → top base c es ≤ 11
 top-few base c [] = omega arith
-top-few base c (e ∷ es) =
-    let few = top-few base c es in
-    elim (eqb_tells (e.0 % base) c) [
-      | inl h ↦ grind (arith, common_steps)
-      | inr h ↦ rw h.0 few
-    ]
+top-few base c (e ∷ es) = grind (arith, common_steps, eqb_tells, top-few base c es)
 
 -- a new overflow line
 new-top : (base : ℕ) (e : Entry) (es : List Entry) → 0 < base →
@@ -193,20 +176,12 @@ total-same f g (suc n) same =
 total-change : (f g : ℕ → ℕ) (c n : ℕ) → ((k : ℕ) → k ≢ c → f k ≡ g k) → c < n →
     total f n + g c ≡ total g n + f c
 total-change f g c zero same lt = omega (arith, lt)
-total-change f g c (suc n) same lt =
-    elim (cases_eq n c) [
-      | inl at ↦ grind (arith, common_steps, total-same)
-      | inr other ↦ omega (arith, same n other, total-change f g c n same (omega (arith, lt, other)))
-    ]
+total-change f g c (suc n) same lt = grind (arith, common_steps, total-same, cases_eq n c, same n, total-change f g c n same)
 
 -- a value at a number below n is at most the sum below n
 total-ge : (f : ℕ → ℕ) (c n : ℕ) → c < n → f c ≤ total f n
 total-ge f c zero lt = omega (arith, lt)
-total-ge f c (suc n) lt =
-    elim (cases_eq n c) [
-      | inl at ↦ (let p : f n ≡ f c = ap f at in omega (arith, p))
-      | inr other ↦ omega (arith, total-ge f c n (omega (arith, lt, other)))
-    ]
+total-ge f c (suc n) lt = grind (arith, common_steps, cases_eq n c, total-ge f c n)
 
 -- a sum of zeros is 0
 total-none : (n : ℕ) → total (λ c. 0) n + 0 ≡ 0
