@@ -32,10 +32,7 @@ pub behind-same : (base : ℕ) (lines more : List Line) (os : List Overflow) →
     ((k : ℕ) → base ≤ k → k < base + length os → get_or more k no_line ≡ get_or lines k no_line) →
     AreBehind base lines os → AreBehind base more os
 behind-same base lines more [] same are = tt
-behind-same base lines more (o ∷ os) same are = (
-  rw (same (base + length os) (omega arith) (omega arith)) are.0,
-  behind-same base lines more os (λ k ge lt. same k ge (omega (arith, lt))) are.1,
-)
+behind-same base lines more (o ∷ os) same are = grind (arith, common_steps, same (base + length os), behind-same base lines more os (λ k ge lt. same k ge (omega (arith, lt))))
 
 -- writing elsewhere changes no overflow line
 pub behind-kept : (base : ℕ) (lines : List Line) (i : ℕ) (x : Line) (os : List Overflow) →
@@ -121,5 +118,4 @@ chains-new base c e lines f os x y within are first leads =
 -- a line that was read
 pub read-line : (lines : List Line) (i : ℕ) (x : Line) (es : List Entry) (next : ℕ) → i < length lines →
     x ≡ get_or lines i x → IsLine (get_or lines i no_line) es next → IsLine x es next
-read-line lines i x es next lt e is =
-    subst (λ l. IsLine l es next) (get_or_default lines i no_line x lt ∙ sym e) is
+read-line lines i x es next lt e is = grind (arith, common_steps, get_or_default lines i no_line x lt)

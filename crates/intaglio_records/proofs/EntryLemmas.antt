@@ -53,15 +53,7 @@ entries-all is_long xs rs same long =
 -- the bytes of all records
 sizes-same : (rs : List (List ℕ)) → AreLong rs → sum_by size_of (map pair_of rs) ≡ sum_by length rs
 sizes-same [] long = refl
-sizes-same (r ∷ rs) long =
-    omega (
-      arith,
-      long 0 (omega arith),
-      length-drop 13 r,
-      sum_by-cons length r rs,
-      sum_by-cons size_of (pair_of r) (map pair_of rs),
-      sizes-same rs (λ i l. long (suc i) (omega (arith, l))),
-    )
+sizes-same (r ∷ rs) long = grind (arith, common_steps, long 0, length-drop 13 r, sum_by-cons length r rs, sum_by-cons size_of (pair_of r) (map pair_of rs), sizes-same rs (λ i l. long (suc i) (omega (arith, l))))
 
 -- said of the strings
 pub sizes-all : (xs : List (ℕ × List ℕ)) (rs : List (List ℕ)) → map pair_of rs ≡ xs → AreLong rs
@@ -90,8 +82,7 @@ entries-take long m xs (suc n) l = grind (arith, common_steps, get_or-take, take
 -- so the entries of the first m strings are the first m entries
 pub entries-cut : (long : Bool) (m : ℕ) (xs : List (ℕ × List ℕ))
     → entries_of long (take m xs) (length (take m xs)) ≡ entries_of long xs (min m (length xs))
-entries-cut long m xs = ap (entries_of long (take m xs)) (length-take m xs)
-    ∙ entries-take long m xs (min m (length xs)) (omega arith)
+entries-cut long m xs = grind (arith, common_steps, length-take, entries-take)
 
 -- there is an entry for each
 pub length-entries_of : (long : Bool) (xs : List (ℕ × List ℕ)) (n : ℕ) → length (entries_of long xs n) ≡ n

@@ -12,9 +12,7 @@ use Rattle.intaglio_records.proofs.Tops.{first-other, first-here, overflow-same,
 
 -- an entry in the middle
 inserted : (one front behind : List ℕ) → IsPermutation (one ++ (front ++ behind)) ((front ++ one) ++ behind)
-inserted one front behind =
-    subst (λ xs. IsPermutation xs ((front ++ one) ++ behind)) (append_assoc one front behind)
-    (IsPermutation-append_left behind (one ++ front) (front ++ one) (IsPermutation-append_comm one front))
+inserted one front behind = grind (arith, common_steps, append_assoc one front behind, IsPermutation-append_left behind (one ++ front) (front ++ one) (IsPermutation-append_comm one front))
 
 -- an entry that is added to an overflow line of one class doesn't change the overflow slots of another
 slots-other : (k c tag : ℕ) (e : Entry) (os : List Overflow) → k ≢ c →

@@ -32,9 +32,4 @@ pub same_pairs : (xs ys : List (ℕ × List ℕ)) →
 same_pairs [] [] e f = refl
 same_pairs [] (y ∷ ys) e f = absurd (omega (arith, ap length e))
 same_pairs (x ∷ xs) [] e f = absurd (omega (arith, ap length e))
-same_pairs (x ∷ xs) (y ∷ ys) e f =
-    let hash : x.0 ≡ y.0 = ap (λ hs. get_or hs 0 0) e in
-    let string : x.1 ≡ y.1 = ap (λ ss. get_or ss 0 []) f in
-    let first : x ≡ y = same_pair x.0 y.0 x.1 y.1 hash string in
-    let rest : xs ≡ ys = same_pairs xs ys (ap (drop 1) e) (ap (drop 1) f) in
-    rw (first, rest) refl
+same_pairs (x ∷ xs) (y ∷ ys) e f = grind (arith, common_steps, ap (λ hs. get_or hs 0 0) e, ap (λ ss. get_or ss 0 []) f, same_pairs xs ys (ap (drop 1) e) (ap (drop 1) f))

@@ -14,33 +14,19 @@ tag-some hash = grind (arith, common_steps)
 pub entry-tag : (tags slots : List ℕ) (es : List Entry) (i : ℕ) → AreIn tags slots es → i < length es →
     0 < get_or tags i 0
 entry-tag tags slots [] i are lt = omega arith
-entry-tag tags slots (e ∷ es) i are lt =
-    elim (cases_eq i (length es)) [
-      | inl same ↦ rw (same, are.0) (tag-some e.0)
-      | inr other ↦ entry-tag tags slots es i are.2 (omega arith)
-    ]
+entry-tag tags slots (e ∷ es) i are lt = grind (arith, common_steps, cases_eq i (length es), tag-some e.0, entry-tag tags slots es i are.2)
 
 -- what is written behind the entries changes none of them
 pub kept-by-tag : (tags slots : List ℕ) (es : List Entry) (i x : ℕ) → length es ≤ i → AreIn tags slots es →
     AreIn (set tags i x) slots es
 kept-by-tag tags slots [] i x le are = tt
-kept-by-tag tags slots (e ∷ es) i x le are =
-    let other : length es ≢ i = λ same. omega arith in (
-      get_or-set_other tags i (length es) x 0 other ∙ are.0,
-      are.1,
-      kept-by-tag tags slots es i x (omega arith) are.2,
-    )
+kept-by-tag tags slots (e ∷ es) i x le are = grind (arith, common_steps, get_or-set_other, kept-by-tag tags slots es i x (omega arith) are.2)
 
 -- a slot that is written behind the entries of a line changes none of them
 pub kept-by-slot : (tags slots : List ℕ) (es : List Entry) (i x : ℕ) → length es ≤ i → AreIn tags slots es →
     AreIn tags (set slots i x) es
 kept-by-slot tags slots [] i x le are = tt
-kept-by-slot tags slots (e ∷ es) i x le are =
-    let other : length es ≢ i = λ same. omega arith in (
-      are.0,
-      get_or-set_other slots i (length es) x 0 other ∙ are.1,
-      kept-by-slot tags slots es i x (omega arith) are.2,
-    )
+kept-by-slot tags slots (e ∷ es) i x le are = grind (arith, common_steps, get_or-set_other, kept-by-slot tags slots es i x (omega arith) are.2)
 
 -- a line whose newest entry's tag is set to 0 has the entries before it
 pub line-remove : (line : Line) (e : Entry) (es : List Entry) (next count : ℕ) → count < 11 →

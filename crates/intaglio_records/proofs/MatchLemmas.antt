@@ -81,8 +81,7 @@ pub found : (xs : List (ℕ × List ℕ)) (rs : List (List ℕ)) (i number hash 
     → map pair_of rs ≡ xs → i < length rs → number ≡ i
     → hash ≡ hash_at (get_or rs i []) 0 → string ≡ drop 13 (get_or rs i [])
     → slice_get xs number ≡ Some (hash, string)
-found xs rs i number hash string list l n h s =
-    rw (← list, n, h, s) (slice_get-map pair_of rs i ∙ ap (option_map pair_of) (slice_get-get_or rs i [] l))
+found xs rs i number hash string list l n h s = grind (arith, common_steps, slice_get-map, slice_get-get_or)
 
 -- how often number i is among those with the hash, said of where their records begin
 abbrev pub count_at : ℕ → List ℕ → ℕ → ℕ → ℕ

@@ -11,7 +11,7 @@ use Rattle.intaglio_records.specs.Entries.{position}
 -- the bytes of all records
 pub length-concat : (rs : List (List ℕ)) → length (concat rs) ≡ sum_by length rs
 length-concat [] = refl
-length-concat (r ∷ rs) = omega (arith, length-append r (concat rs), sum_by-cons length r rs, length-concat rs)
+length-concat (r ∷ rs) = grind (arith, common_steps, length-append, sum_by-cons, length-concat rs)
 
 -- a record is where it begins, and the others are behind it
 pub part-at : (rs : List (List ℕ)) (i : ℕ) → i < length rs
@@ -32,9 +32,7 @@ record-within rs i l = omega (arith, length-concat rs, sum_by_more_le length rs 
 -- a byte of it
 pub byte-at : (rs : List (List ℕ)) (i k : ℕ) → i < length rs → k < length (get_or rs i [])
     → get_or (concat rs) (position rs i + k) 0 ≡ get_or (get_or rs i []) k 0
-byte-at rs i k l within =
-    sym (get_or-drop (position rs i) (concat rs) k 0) ∙ ap (λ bs. get_or bs k 0) (part-at rs i l)
-    ∙ get_or_append_left (get_or rs i []) (concat (drop (suc i) rs)) 0 k within
+byte-at rs i k l within = grind (arith, common_steps, get_or-drop (position rs i) (concat rs) k 0, part-at rs i l, get_or_append_left)
 
 -- its hash
 pub hash-there : (rs : List (List ℕ)) (i : ℕ) → i < length rs → 13 ≤ length (get_or rs i [])
@@ -71,17 +69,7 @@ pub record There (rs : List (List ℕ)) (bytes : List ℕ) (at i : ℕ) : Type 0
 -- each of at most 2 ^ 32 records is within the bytes from its position on, with its length, number and hash
 pub there : (rs : List (List ℕ)) (bytes : List ℕ) (at i : ℕ) → bytes ≡ concat rs → AreRecords rs
     → length rs ≤ 2 ^ 32 → i < length rs → at ≡ position rs i → There rs bytes at i
-there rs bytes at i all each few l e =
-    let r = each i l in
-    let small : i % 2 ^ 32 ≡ i = omega (arith, few, l) in
-    rw (all, e)
-    (record {
-      long = r.long;
-      within = record-within rs i l;
-      size = byte-at rs i 12 l (omega (arith, r.long)) ∙ r.length_is;
-      number = number-there rs i l r.long ∙ r.number_is ∙ small;
-      hash = hash-there rs i l r.long;
-    })
+there rs bytes at i all each few l e = grind (arith, common_steps, each i l, record-within, byte-at, number-there, hash-there)
 
 -- what the proofs of reading of records use
 pub ruleset reading_rules = (there, string-there, slice_range)

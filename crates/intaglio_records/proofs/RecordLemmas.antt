@@ -66,10 +66,7 @@ record-made hash number string = grind (arith, common_steps)
 -- one more record behind the others
 pub records-push : (rs : List (List ℕ)) (r : List ℕ) → AreRecords rs → IsRecord (length rs) r
     → AreRecords (rs ++ r ∷ [])
-records-push rs r h is i l = elim (cases_lt i (length rs)) [
-  | inl low ↦ subst (λ x. IsRecord i x) (sym (get_or_append_left rs (r ∷ []) [] i low)) (h i low)
-  | inr high ↦ grind (arith, common_steps)
-]
+records-push rs r h is i l = grind (arith, common_steps, cases_lt i (length rs), get_or_append_left, h i)
 
 -- the first n records
 pub records-take : (n : ℕ) (rs : List (List ℕ)) → AreRecords rs → AreRecords (take n rs)
@@ -78,8 +75,7 @@ records-take n rs h i l = grind (arith, common_steps)
 -- the string of a record that is there
 pub get-string : (rs : List (List ℕ)) (i : ℕ) (r : List ℕ) → slice_get rs i ≡ Some r
     → slice_get (strings_in rs) i ≡ Some (drop 13 r)
-get-string rs i r is = slice_get-map (λ (p : ℕ × List ℕ). p.1) (map pair_of rs) i
-    ∙ ap (option_map (λ (p : ℕ × List ℕ). p.1)) (slice_get-map pair_of rs i ∙ ap (option_map pair_of) is)
+get-string rs i r is = grind (arith, common_steps, slice_get-map)
 
 -- a fact of each case holds in one of them
 pub ok-or-err : {T E A B : Type 0} → (r : Result T E) → OnOk r A → OnErr r B → A ⊎ B

@@ -76,10 +76,7 @@ overflow-none base c tag (o ∷ os) some none = grind (arith, common_steps, eqb_
 -- the next line of a search, if its number isn't 0, is one of the lines
 pub next-inside : (search : Candidates) (left : List ℕ) (is : IsLeft search left) → search.next ≢ 0 →
     search.next < length search.lines.now
-next-inside search left is more =
-    let some : 0 < newest is.base is.class is.behind = omega (arith, is.next, more) in
-    let there = next-line is.base is.class search.tag search.lines.now is.behind is.lines some in
-    omega (arith, is.next, there.6, there.5, is.size (omega (arith, there.5)))
+next-inside search left is more = grind (arith, common_steps, next-line is.base is.class search.tag search.lines.now is.behind is.lines, is.size)
 
 -- at most n of n bits are set
 pub bits-few : (bits n : ℕ) → bits_below bits n ≤ n

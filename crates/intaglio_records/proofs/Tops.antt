@@ -154,12 +154,7 @@ top-here base e es some old =
 -- if there is a first line, the top line of a class is its newest overflow line, or its first if it has none
 pub is-top : (base c : ℕ) (es : List Entry) → 0 < base → IsTop base c es
 is-top base c [] some = inl (refl, refl)
-is-top base c (e ∷ es) some =
-    let old = is-top base c es some in
-    elim (cases_eq c (e.0 % base)) [
-      | inl same ↦ grind (arith, common_steps, top-here)
-      | inr other ↦ grind (arith, common_steps, newest-other, first-other, top-other, newest_length-other)
-    ]
+is-top base c (e ∷ es) some = grind (arith, common_steps, cases_eq c (e.0 % base), is-top base c es some, top-here, newest-other, first-other, top-other, newest_length-other)
 
 -- the sum of f below n
 abbrev total : (ℕ → ℕ) → ℕ → ℕ
@@ -169,8 +164,7 @@ total f (suc n) = f n + total f n
 -- functions that are equal below n have the same sum below n
 total-same : (f g : ℕ → ℕ) (n : ℕ) → ((k : ℕ) → k < n → f k ≡ g k) → total f n ≡ total g n
 total-same f g zero same = refl
-total-same f g (suc n) same =
-    omega (arith, same n (omega arith), total-same f g n (λ k lt. same k (omega (arith, lt))))
+total-same f g (suc n) same = grind (arith, common_steps, same n, total-same f g n)
 
 -- if f and g are equal but at c, which is below n, their sums below n differ as their values at c
 total-change : (f g : ℕ → ℕ) (c n : ℕ) → ((k : ℕ) → k ≢ c → f k ≡ g k) → c < n →
@@ -186,7 +180,7 @@ total-ge f c (suc n) lt = grind (arith, common_steps, cases_eq n c, total-ge f c
 -- a sum of zeros is 0
 total-none : (n : ℕ) → total (λ c. 0) n + 0 ≡ 0
 total-none zero = refl
-total-none (suc n) = omega (arith, total-none n)
+total-none (suc n) = grind (arith, common_steps, total-none n)
 
 -- an entry more
 grown : (base : ℕ) (e : Entry) (es : List Entry) → 0 < base →
@@ -203,14 +197,13 @@ grown base e es some =
 pub counted : (base : ℕ) (es : List Entry) → 0 < base →
     length es ≡ total (λ c. top base c es) base + 11 * length (overflow base es)
 counted base [] some = sym (total-none base)
-counted base (e ∷ es) some =
-    let c = e.0 % base in let os = overflow base es in
-    let sums =
-    total-change (λ k. top base k (e ∷ es)) (λ k. top base k es) c base (λ k other.
-    top-other base k e es other) (mod-lt e.0 some) in
-    let before = counted base es some in
-    let step = grown base e es some in
-    omega (arith, sums, before, step)
+counted base (e ∷ es) some = omega (
+  arith,
+  total-change (λ k. top base k (e ∷ es)) (λ k. top base k es) (e.0 % base) base (λ k. top-other base k e es)
+      (mod-lt e.0 some),
+  counted base es some,
+  grown base e es some,
+)
 
 -- if a new overflow line is needed, there are eleven entries for each, and for this one too
 pub needed : (base c : ℕ) (es : List Entry) → 0 < base → c < base → top base c es ≡ 11 →
