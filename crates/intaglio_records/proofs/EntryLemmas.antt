@@ -27,9 +27,7 @@ begins-same : (rs : List (List ℕ)) (n : ℕ) → AreLong rs →
     sum_by size_of (take n (map pair_of rs)) ≡ position rs n
 begins-same rs zero long = refl
 begins-same [] (suc n) long = refl
-begins-same (r ∷ rs) (suc n) long =
-    let rest = begins-same rs n (λ i l. long (suc i) (omega (arith, l))) in
-    omega (arith, long 0 (omega arith), length-drop 13 r, sum_by-cons length r (take n rs), sum_by-cons size_of (pair_of r) (take n (map pair_of rs)))
+begins-same (r ∷ rs) (suc n) long = omega (arith, long 0 (omega arith), length-drop 13 r, sum_by-cons length r (take n rs), sum_by-cons size_of (pair_of r) (take n (map pair_of rs)), begins-same rs n (λ i l. long (suc i) (omega (arith, l))))
 
 -- the entries of strings are those of their records
 pub entries-same : (is_long : Bool) (rs : List (List ℕ)) (n : ℕ) → AreLong rs → n ≤ length rs
@@ -41,7 +39,7 @@ entries-same is_long rs (suc n) long l = grind (arith, common_steps, get_or-map,
 pub entries-first : (is_long : Bool) (xs : List (ℕ × List ℕ)) (rs : List (List ℕ)) (n : ℕ) →
     map pair_of rs ≡ xs
     → AreLong rs → n ≤ length rs → entries_of is_long xs n ≡ entries is_long rs n
-entries-first is_long xs rs n same long l = rw (← same) (entries-same is_long rs n long l)
+entries-first is_long xs rs n same long l = grind (arith, common_steps, entries-same)
 
 -- and of all
 pub entries-all : (is_long : Bool) (xs : List (ℕ × List ℕ)) (rs : List (List ℕ)) →

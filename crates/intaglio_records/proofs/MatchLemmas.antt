@@ -35,7 +35,7 @@ pub record Stepped (xs : List (ℕ
 -- the record of a slot begins where it says
 pub slot-begins : (long : Bool) (rs : List (List ℕ)) (slot : ℕ) → IsSlot long rs slot
     → IsPosition rs (begin_of long rs slot)
-slot-begins true rs slot is = (is.0, is.1, ap (position rs) is.2)
+slot-begins true rs slot is = grind (arith, common_steps)
 slot-begins false rs slot is = is
 
 -- when a search gives a slot, what was left is its record's number, if that has the hash, and the rest
@@ -97,10 +97,7 @@ count-one h hash number i rest = grind (arith, common_steps)
 pub count-numbers : (hash : ℕ) (bytes : List ℕ) (i : ℕ) (ats : List ℕ)
     → sum_by (one_of i) (numbers_with hash bytes ats) ≡ sum_by (count_at hash bytes i) ats
 count-numbers hash bytes i [] = refl
-count-numbers hash bytes i (at ∷ ats) =
-    count-one (hash_at bytes at) hash (number_at bytes at) i (numbers_with hash bytes ats)
-    ∙ ap (λ n. count_at hash bytes i at + n) (count-numbers hash bytes i ats)
-    ∙ sym (sum_by-cons (count_at hash bytes i) at ats)
+count-numbers hash bytes i (at ∷ ats) = grind (arith, count-one (hash_at bytes at) hash (number_at bytes at) i (numbers_with hash bytes ats), count-numbers hash bytes i ats, sum_by-cons (count_at hash bytes i) at ats)
 
 -- the slots of the first n records are slots of records
 pub slots-all : (long : Bool) (rs : List (List ℕ)) (base hash n : ℕ) → n ≤ length rs

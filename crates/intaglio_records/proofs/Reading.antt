@@ -18,11 +18,7 @@ pub part-at : (rs : List (List ℕ)) (i : ℕ) → i < length rs
     → drop (position rs i) (concat rs) ≡ get_or rs i [] ++ concat (drop (suc i) rs)
 part-at [] i l = absurd (omega (arith, l))
 part-at (r ∷ rs) zero l = refl
-part-at (r ∷ rs) (suc i) l =
-    let at : position (r ∷ rs) (suc i) ≡ length r + position rs i = sum_by-cons length r (take i rs) in
-    let front : drop (length r) (r ++ concat rs) ≡ concat rs = grind (arith, common_steps) in
-    ap (λ n. drop n (r ++ concat rs)) at ∙ sym (drop-drop (position rs i) (length r) (r ++ concat rs))
-    ∙ ap (drop (position rs i)) front ∙ part-at rs i (omega (arith, l))
+part-at (r ∷ rs) (suc i) l = grind (arith, common_steps, sum_by-cons length r (take i rs), drop-drop (position rs i) (length r) (r ++ concat rs), part-at rs i)
 
 -- all of it
 pub record-within : (rs : List (List ℕ)) (i : ℕ) → i < length rs

@@ -21,12 +21,7 @@ are-long rs h i l = (h i l).long
 -- the headers of all records are within their bytes
 pub headers-within : (rs : List (List ℕ)) → AreLong rs → 13 * length rs ≤ sum_by length rs
 headers-within [] h = omega arith
-headers-within (r ∷ rs) h = omega (
-  arith,
-  h 0 (omega arith),
-  sum_by-cons length r rs,
-  headers-within rs (λ i l. h (suc i) (omega (arith, l))),
-)
+headers-within (r ∷ rs) h = omega (arith, h 0 (omega arith), sum_by-cons length r rs, headers-within rs (λ i l. h (suc i) (omega (arith, l))))
 
 -- so are those of the records behind the first n
 pub headers-behind : (n : ℕ) (rs : List (List ℕ)) → AreLong rs
@@ -49,9 +44,7 @@ strings_in rs = map (λ (p : ℕ × List ℕ). p.1) (map pair_of rs)
 pub strings-bytes : (rs : List (List ℕ)) → AreLong rs
     → 13 * length rs + sum_by length (strings_in rs) ≡ sum_by length rs
 strings-bytes [] h = refl
-strings-bytes (r ∷ rs) h =
-    let rest = strings-bytes rs (λ i l. h (suc i) (omega (arith, l))) in
-    omega (arith, h 0 (omega arith), length-drop 13 r, sum_by-cons length r rs, sum_by-cons length (drop 13 r) (strings_in rs))
+strings-bytes (r ∷ rs) h = grind (arith, common_steps, h 0, length-drop, sum_by-cons, strings-bytes rs (λ i l. h (suc i) (omega (arith, l))))
 
 -- how many bytes of strings there is room for, said of the buffer
 pub room-is : (b : Strings) → AreLong b.list → length b.list ≤ b.most → set_aside b ≤ b.spare_bytes

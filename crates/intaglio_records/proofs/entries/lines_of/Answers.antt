@@ -6,7 +6,7 @@ use Rattle.intaglio_records.proofs.EntryLemmas.{entry-more, length-entries}
 use Rattle.intaglio_records.proofs.entries.lines_of.Goals as goal
 
 pub slot_for-requires-clause-few : goal.slot_for-requires-clause-few
-slot_for-requires-clause-few c = omega (arith, c.loop-i-test.true, c.requires.enough, c.requires.few)
+slot_for-requires-clause-few c = omega arith
 
 pub place-requires : goal.place-requires
 place-requires c = grind (arith, common_steps, length-entries)
