@@ -111,8 +111,5 @@ are-found base hash (e ∷ es) some =
       | inl same ↦
           (let one : slots_of base hash (e ∷ es) ≡ one_of tag e ++ slots_of base hash es = grind (arith, common_steps) in
           let here : IsPermutation (one_of tag e ++ found base k tag es) (found base k tag (e ∷ es)) = grind (arith, common_steps, found-here) in
-          subst (λ xs. IsPermutation xs (found base k tag (e ∷ es))) (sym one)
-          (IsPermutation-trans (one_of tag e ++ slots_of base hash es) (one_of tag e ++ found base k tag es)
-          (found base k tag (e ∷ es))
-          (IsPermutation-append_right (one_of tag e) (slots_of base hash es) (found base k tag es) old) here))
+          rw one (IsPermutation-trans _ _ _ (IsPermutation-append_right (one_of tag e) _ _ old) here))
     ]

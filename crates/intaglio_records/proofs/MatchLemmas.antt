@@ -154,10 +154,8 @@ count-slots long rs bytes base hash i (suc n) all each few l =
     let slot = slot_of long n at in
     let t = there rs bytes at n all each few (omega (arith, l)) refl in
     let value : count_of long rs hash bytes i slot ≡ cond (h == hash) (one_of i n) 0 = grind (arith, common_steps) in
-    count-entry base hash h slot (one_of i n) (entries long rs n) (count_of long rs hash bytes i) value
-    ∙ ap (λ x. cond (h == hash) (one_of i n) 0 + x)
-    (count-slots long rs bytes base hash i n all each few (omega (arith, l)))
-    ∙ count-more h (hash_at (get_or rs i []) 0) hash i n (λ e. ap (λ k. hash_at (get_or rs k []) 0) e)
+    grind (arith, value, count-entry base hash h slot (one_of i n) (entries long rs n) (count_of long rs hash bytes i),
+    count-slots long rs bytes base hash i n all each few, count-more h (hash_at (get_or rs i []) 0) hash i n (λ e. ap (λ k. hash_at (get_or rs k []) 0) e))
 
 -- so a search finds each number with the hash once
 pub all-found : (long : Bool) (rs : List (List ℕ)) (base hash : ℕ) (slots : List ℕ) → AreRecords rs
@@ -184,20 +182,11 @@ pub all-within : (xs : List (ℕ × List ℕ)) (hash : ℕ) (left : List ℕ) �
     → All (λ n. n < length xs) left
 all-within xs hash left all = within left (λ n. below n)
   where
-    none : (n : ℕ) → length xs ≤ n
-        → ◌≡◌ {A = ℕ} (cond (nat_lt n (length xs) && ((get_or xs n (0, [])).0 == hash)) 1 0) 0
-    none n high = rw (le-ltb n (length xs) high) refl
-
     below : (n : ℕ) → 0 < sum_by (one_of n) left → n < length xs
-    below n some = elim (cases_lt n (length xs)) [
-      | inl low ↦ low
-      | inr high ↦ absurd (omega (arith, some, all n, none n high))
-    ]
+    below n some = grind (arith, common_steps, cases_lt n (length xs), all n)
 
     within : (ns : List ℕ) → ((n : ℕ) → 0 < sum_by (one_of n) ns → n < length xs) →
         All (λ n. n < length xs) ns
     within [] is = All-nil (λ n. n < length xs)
     within (n ∷ ns) is =
-        let here : one_of n n ≡ 1 = cond-true (n == n) 1 0 (eq-eqb n n refl) in
-        All-cons (λ n. n < length xs) n ns (is n (omega (arith, here, sum_by-cons (one_of n) n ns)))
-        (within ns (λ m some. is m (omega (arith, some, sum_by-cons (one_of m) n ns))))
+        grind (arith, common_steps, All-cons, is n, sum_by-cons, within ns (λ m some. is m (omega (arith, some, sum_by-cons (one_of m) n ns))))
