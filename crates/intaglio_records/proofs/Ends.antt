@@ -16,22 +16,12 @@ pub strings_length : (at : ℕ) (bytes es : List ℕ) → length (strings_from a
 strings_length at bytes [] = refl
 strings_length at bytes (e ∷ es) = ap suc (strings_length e bytes es)
 
--- a range of a list is unchanged by what is added behind it
-range-append : (bytes more : List ℕ) (a b : ℕ) → a ≤ b → b ≤ length bytes →
-    slice_range (bytes ++ more) a b ≡ slice_range bytes a b
-range-append bytes more a b ab l = grind (arith, common_steps)
-
--- the range of what was added
-range-added : (bytes more : List ℕ) →
-    slice_range (bytes ++ more) (length bytes) (length bytes + length more) ≡ more
-range-added bytes more = grind (arith, common_steps)
-
 -- the strings after one is added
 pub strings-push : (at : ℕ) (bytes es more : List ℕ) → AreEnds at (length bytes) es →
     strings_from at (bytes ++ more) (es ++ (length bytes + length more) ∷ []) ≡ strings_from at bytes es
     ++ more ∷ []
-strings-push at bytes [] more h = rw h (ap (λ x. x ∷ []) (range-added bytes more))
-strings-push at bytes (e ∷ es) more h = grind (arith, common_steps, range-append, ends-within e (length bytes) es h.1, strings-push e bytes es more h.1)
+strings-push at bytes [] more h = grind (arith, common_steps)
+strings-push at bytes (e ∷ es) more h = grind (arith, common_steps, ends-within e (length bytes) es h.1, strings-push e bytes es more h.1)
 
 -- if bytes are added, the ends with the new length behind them are ends of all bytes
 pub ends-push : (at all more : ℕ) (es : List ℕ) → AreEnds at all es →
@@ -60,18 +50,14 @@ strings-at at bytes [] i l = absurd (omega arith)
 strings-at at bytes (e ∷ es) zero l = refl
 strings-at at bytes (e ∷ es) (suc i) l = strings-at e bytes es i (omega arith)
 
--- the first n strings
-range-take : (bytes : List ℕ) (m a b : ℕ) → a ≤ b → b ≤ m →
-    slice_range (take m bytes) a b ≡ slice_range bytes a b
-range-take bytes m a b ab l = grind (arith, common_steps, drop-take a (m - a) bytes, take-take (b - a) (m - a) (drop a bytes))
-
 -- the first n strings are those of the first n ends, in any front of the bytes that reaches the last of these
 pub strings-take : (at all : ℕ) (bytes es : List ℕ) (n m : ℕ) → AreEnds at all es → n ≤ length es →
     get_or (at ∷ es) n 0 ≤ m →
     strings_from at (take m bytes) (take n es) ≡ take n (strings_from at bytes es)
 strings-take at all bytes es zero m h l e = refl
 strings-take at all bytes [] (suc n) m h l e = refl
-strings-take at all bytes (x ∷ es) (suc n) m h l e = grind (arith, common_steps, range-take, at-below x all es n h.1 (omega arith), strings-take x all bytes es n m h.1 (omega arith) e)
+strings-take at all bytes (x ∷ es) (suc n) m h l e =
+    grind (arith, common_steps, drop-take at (m - at) bytes, take-take (x - at) (m - at) (drop at bytes), at-below x all es n h.1 (omega arith), strings-take x all bytes es n m h.1 (omega arith) e)
 
 -- the first n ends are ends of the bytes up to the last of them
 pub ends-take : (at all : ℕ) (es : List ℕ) (n : ℕ) → AreEnds at all es → n ≤ length es →

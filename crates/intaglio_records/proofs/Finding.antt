@@ -1,14 +1,14 @@
 -- A search finds each entry of its class and tag once.
 use Rattle.std.proofs.lemmas.Grind.{common_steps}
-use Rattle.std.proofs.Common.{◌≡◌, ◌≢◌, ℕ, ◌%◌, ◌<◌, ◌≤◌, ◌==◌, List, [], ◌∷◌, ◌++◌, length, cond, refl, sym, subst, ap, ◌∙◌, arith, inl, inr, append_assoc}
+use Rattle.std.proofs.Common.{◌≡◌, ◌≢◌, ℕ, ◌%◌, ◌<◌, ◌≤◌, ◌==◌, List, [], ◌∷◌, ◌++◌, length, cond, refl, sym, subst, arith, inl, inr, append_assoc}
 use Rattle.std.specs.List.Sorted.{IsPermutation}
-use Rattle.std.proofs.lemmas.Bool.{cases_eq, cases_lt, cond-true, cond-false, eq-eqb, ne_eqb}
+use Rattle.std.proofs.lemmas.Bool.{cases_eq, cond-true, cond-false, eq-eqb, ne_eqb}
 use Rattle.std.proofs.lemmas.Bool.Decides.{eqb_tells}
 use Rattle.std.proofs.lemmas.List.Sorted.{IsPermutation-refl, IsPermutation-trans, IsPermutation-append_left, IsPermutation-append_right, IsPermutation-append_comm}
 use Rattle.intaglio_records.specs.Line.{Entry, tag_of}
-use Rattle.intaglio_records.specs.Chains.{Overflow, first_line, newest_length, add, overflow, newest}
+use Rattle.intaglio_records.specs.Chains.{Overflow, first_line, add, overflow, newest}
 use Rattle.intaglio_records.specs.Search.{slots_with, overflow_slots, slots_of, AreFound}
-use Rattle.intaglio_records.proofs.Tops.{first-other, first-here, overflow-same, overflow-add, overflow-new, is-top, length-none}
+use Rattle.intaglio_records.proofs.Tops.{spilling, first-other, first-here, is-top, length-none}
 
 -- an entry in the middle
 inserted : (one front behind : List ℕ) → IsPermutation (one ++ (front ++ behind)) ((front ++ one) ++ behind)
@@ -33,18 +33,7 @@ slots-here base c tag e (o ∷ os) some = grind (arith, common_steps, eqb_tells,
 -- one more entry doesn't change the overflow slots of another class
 overflow_slots-other : (base k tag : ℕ) (e : Entry) (es : List Entry) → k ≢ e.0 % base →
     overflow_slots k tag (overflow base (e ∷ es)) ≡ overflow_slots k tag (overflow base es)
-overflow_slots-other base k tag e es other =
-    grind (
-      arith,
-      common_steps,
-      cases_lt,
-      overflow-same,
-      overflow-add,
-      slots-other,
-      overflow-new,
-      cond-false,
-      ne_eqb,
-    )
+overflow_slots-other base k tag e es other = grind (arith, spilling, slots-other, cond-false, ne_eqb)
 
 -- the slots of one class and tag
 abbrev found : ℕ → ℕ → ℕ → List Entry → List ℕ
@@ -72,33 +61,10 @@ found-behind base tag e es behind full is perm =
     (inserted (one_of tag e) front rest))
     (IsPermutation-append_right front (one_of tag e ++ rest) behind perm))
 
--- an entry that makes a new overflow line adds its slot to those of its class, if it has the tag
-found-new : (base tag : ℕ) (e : Entry) (es : List Entry) → 11 ≤ length (first_line base (e.0 % base) es) →
-    11 ≤ newest_length (e.0 % base) (overflow base es) →
-    IsPermutation (one_of tag e ++ found base (e.0 % base) tag es) (found base (e.0 % base) tag (e ∷ es))
-found-new base tag e es full none =
-    grind (arith, common_steps, found-behind, one_of, overflow-new, cond-true, eq-eqb)
-
 -- if there is a first line, one more entry adds its slot to those of its class, if it has the tag
 found-here : (base tag : ℕ) (e : Entry) (es : List Entry) → 0 < base →
     IsPermutation (one_of tag e ++ found base (e.0 % base) tag es) (found base (e.0 % base) tag (e ∷ es))
-found-here base tag e es some =
-    grind (
-      arith,
-      common_steps,
-      is-top,
-      cases_lt,
-      found,
-      one_of,
-      first-here,
-      overflow-same,
-      inserted,
-      found-new,
-      length-none,
-      found-behind,
-      overflow-add,
-      slots-here,
-    )
+found-here base tag e es some = grind (arith, spilling, is-top, found, one_of, first-here, inserted, length-none, found-behind, slots-here, cond-true, eq-eqb)
 
 -- if there is a first line, a search by a hash gives the slot of each entry of its class and tag once
 pub are-found : (base hash : ℕ) (es : List Entry) → 0 < base → AreFound base hash es

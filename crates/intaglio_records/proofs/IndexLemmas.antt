@@ -21,10 +21,6 @@ pub over_same : (xs ys : List (ℕ × List ℕ)) (room same : ℕ) (index : Reco
     → IsOver ys same index
 over_same xs ys room same index e f is = rw (← e, ← f) is
 
--- two pairs are equal if their numbers and their strings are
-same_pair : (a b : ℕ) (s t : List ℕ) → a ≡ b → s ≡ t → ◌≡◌ {A = ℕ × List ℕ} (a, s) (b, t)
-same_pair a b s t e f = rw (e, f) refl
-
 -- pairs are the same if their hashes and their strings are
 pub same_pairs : (xs ys : List (ℕ × List ℕ)) →
     map (λ (p : ℕ × List ℕ). p.0) xs ≡ map (λ (p : ℕ × List ℕ). p.0) ys

@@ -1,8 +1,8 @@
 -- Searches among records.
 use Rattle.std.proofs.lemmas.Grind.{common_steps}
-use Rattle.std.proofs.Common.{◌≡◌, ◌≢◌, ℕ, zero, suc, ◌+◌, ◌%◌, ◌^◌, ◌<◌, ◌≤◌, ◌==◌, ◌&&◌, nat_lt, Bool, true, false, inl, inr, arith, sum_by, List, [], ◌∷◌, ◌++◌, length, drop, get_or, slice_get, Some, option_map, map, cond, refl, sym, ap, ◌∙◌, subst}
+use Rattle.std.proofs.Common.{◌≡◌, ◌≢◌, ℕ, zero, suc, ◌+◌, ◌%◌, ◌^◌, ◌<◌, ◌≤◌, ◌==◌, ◌&&◌, nat_lt, Bool, true, false, inl, inr, arith, sum_by, List, [], ◌∷◌, ◌++◌, length, drop, get_or, slice_get, Some, map, cond, refl, sym, ap, ◌∙◌, subst}
 use Rattle.std.specs.List.{concat, All}
-use Rattle.std.proofs.lemmas.Bool.{cases_lt, cond_both, cond-true, eq-eqb, le-ltb}
+use Rattle.std.proofs.lemmas.Bool.{cases_lt, cond_both, le-ltb}
 use Rattle.std.proofs.lemmas.List.Sums.{sum_by-cons}
 use Rattle.std.proofs.lemmas.Option.{slice_get-map, slice_get-get_or}
 use Rattle.std.proofs.lemmas.List.Elements.{All-cons, All-head, All-nil, All-tail}
@@ -154,8 +154,13 @@ count-slots long rs bytes base hash i (suc n) all each few l =
     let slot = slot_of long n at in
     let t = there rs bytes at n all each few (omega (arith, l)) refl in
     let value : count_of long rs hash bytes i slot ≡ cond (h == hash) (one_of i n) 0 = grind (arith, common_steps) in
-    grind (arith, value, count-entry base hash h slot (one_of i n) (entries long rs n) (count_of long rs hash bytes i),
-    count-slots long rs bytes base hash i n all each few, count-more h (hash_at (get_or rs i []) 0) hash i n (λ e. ap (λ k. hash_at (get_or rs k []) 0) e))
+    grind (
+      arith,
+      value,
+      count-entry base hash h slot (one_of i n) (entries long rs n) (count_of long rs hash bytes i),
+      count-slots long rs bytes base hash i n all each few,
+      count-more h (hash_at (get_or rs i []) 0) hash i n (λ e. ap (λ k. hash_at (get_or rs k []) 0) e),
+    )
 
 -- so a search finds each number with the hash once
 pub all-found : (long : Bool) (rs : List (List ℕ)) (base hash : ℕ) (slots : List ℕ) → AreRecords rs
@@ -176,17 +181,3 @@ all-found long rs base hash slots each few perm i =
       | inl low ↦ grind (arith, common_steps)
       | inr high ↦ rw (length-map rs pair_of, le-ltb i n high) refl
     ]
-
--- a number that is given is below the number of strings
-pub all-within : (xs : List (ℕ × List ℕ)) (hash : ℕ) (left : List ℕ) → AreAll xs hash left
-    → All (λ n. n < length xs) left
-all-within xs hash left all = within left (λ n. below n)
-  where
-    below : (n : ℕ) → 0 < sum_by (one_of n) left → n < length xs
-    below n some = grind (arith, common_steps, cases_lt n (length xs), all n)
-
-    within : (ns : List ℕ) → ((n : ℕ) → 0 < sum_by (one_of n) ns → n < length xs) →
-        All (λ n. n < length xs) ns
-    within [] is = All-nil (λ n. n < length xs)
-    within (n ∷ ns) is =
-        grind (arith, common_steps, All-cons, is n, sum_by-cons, within ns (λ m some. is m (omega (arith, some, sum_by-cons (one_of m) n ns))))

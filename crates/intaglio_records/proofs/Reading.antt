@@ -30,16 +30,6 @@ pub byte-at : (rs : List (List ℕ)) (i k : ℕ) → i < length rs → k < lengt
     → get_or (concat rs) (position rs i + k) 0 ≡ get_or (get_or rs i []) k 0
 byte-at rs i k l within = grind (arith, common_steps, get_or-drop (position rs i) (concat rs) k 0, part-at rs i l, get_or_append_left)
 
--- its hash
-pub hash-there : (rs : List (List ℕ)) (i : ℕ) → i < length rs → 13 ≤ length (get_or rs i [])
-    → hash_at (concat rs) (position rs i) ≡ hash_at (get_or rs i []) 0
-hash-there rs i l long = grind (arith, common_steps, byte-at)
-
--- its number
-pub number-there : (rs : List (List ℕ)) (i : ℕ) → i < length rs → 13 ≤ length (get_or rs i [])
-    → number_at (concat rs) (position rs i) ≡ number_at (get_or rs i []) 0
-number-there rs i l long = grind (arith, common_steps, byte-at)
-
 -- and its string
 pub string-there : (rs : List (List ℕ)) (i start n : ℕ) → i < length rs → start ≡ position rs i + 13
     → n + 13 ≡ length (get_or rs i [])
@@ -65,7 +55,7 @@ pub record There (rs : List (List ℕ)) (bytes : List ℕ) (at i : ℕ) : Type 0
 -- each of at most 2 ^ 32 records is within the bytes from its position on, with its length, number and hash
 pub there : (rs : List (List ℕ)) (bytes : List ℕ) (at i : ℕ) → bytes ≡ concat rs → AreRecords rs
     → length rs ≤ 2 ^ 32 → i < length rs → at ≡ position rs i → There rs bytes at i
-there rs bytes at i all each few l e = grind (arith, common_steps, each i l, record-within, byte-at, number-there, hash-there)
+there rs bytes at i all each few l e = grind (arith, common_steps, each i l, record-within, byte-at)
 
 -- what the proofs of reading of records use
 pub ruleset reading_rules = (there, string-there, slice_range)

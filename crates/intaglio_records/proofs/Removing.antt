@@ -1,14 +1,14 @@
 -- The newest entry less.
 use Rattle.std.proofs.lemmas.Grind.{common_steps}
 use Rattle.std.proofs.Common.{◌≡◌, ◌≢◌, ℕ, suc, ◌+◌, ◌%◌, ◌<◌, ◌≤◌, List, [], ◌∷◌, length, get_or, set, take, sym, ◌∙◌, arith, inl, inr, mod-lt}
-use Rattle.std.proofs.lemmas.Bool.{cases_eq, cases_lt, ne_eqb}
+use Rattle.std.proofs.lemmas.Bool.{cases_eq, ne_eqb}
 use Rattle.std.proofs.lemmas.Bool.Decides.{eqb_tells}
 use Rattle.std.proofs.lemmas.List.{get_or-set_same, get_or-set_other, length-set, get_or-take, length-take-le}
 use Rattle.intaglio_records.specs.declared.line.Line.{Line}
 use Rattle.intaglio_records.specs.Line.{Entry, IsLine}
 use Rattle.intaglio_records.specs.Chains.{Overflow, first_line, newest_length, add, overflow, newest, no_line, AreBehind, AreChains, firsts_of}
 use Rattle.intaglio_records.proofs.ChainLemmas.{add-length, newest-add, newest-at, behind-kept, behind-same, chains-first}
-use Rattle.intaglio_records.proofs.Tops.{first-here, first-other, first-full, overflow-same, overflow-add, overflow-new, is-top, length-here, length-none}
+use Rattle.intaglio_records.proofs.Tops.{spilling, first-here, first-other, first-full, overflow-same, overflow-add, overflow-new, is-top, length-here, length-none}
 
 -- the newest entry of an overflow line is removed
 behind-remove : (base c n : ℕ) (e : Entry) (lines : List Line) (x : Line) (os : List Overflow) →
@@ -44,7 +44,7 @@ length-add k c e (o ∷ os) some = grind (arith, common_steps, eqb_tells, length
 -- no newest overflow line of a class is empty
 pub length-some : (base k : ℕ) (es : List Entry) → 0 < newest_length k (overflow base es)
 length-some base k [] = omega arith
-length-some base k (e ∷ es) = grind (arith, common_steps, cases_lt, overflow-same, overflow-add, length-add, overflow-new, eqb_tells, length-some base k es)
+length-some base k (e ∷ es) = grind (arith, spilling, length-add, eqb_tells, length-some base k es)
 
 -- in which line of its class k the newest entry is
 pub data IsIn (base k : ℕ) (e : Entry) (es : List Entry) : Type 0 where
@@ -57,18 +57,7 @@ pub data IsIn (base k : ℕ) (e : Entry) (es : List Entry) : Type 0 where
 
 -- if there is a first line, an entry goes to that of its class, to its newest overflow line, or to a new one
 pub is-in : (base k : ℕ) (e : Entry) (es : List Entry) → 0 < base → k ≡ e.0 % base → IsIn base k e es
-is-in base k e es some at = rw at (grind (
-  arith,
-  common_steps,
-  is-top,
-  cases_lt,
-  overflow-same,
-  overflow-add,
-  length-here,
-  length-some,
-  newest-add,
-  length-none,
-))
+is-in base k e es some at = rw at (grind (arith, spilling, is-top, length-here, length-some, newest-add, length-none))
 
 module _ (base k : ℕ) (e : Entry) (es : List Entry) (lines : List Line) (some : 0 < base) (at : k ≡ e.0 % base)
     (are : AreChains base lines (firsts_of base (e ∷ es)) (overflow base (e ∷ es))) where

@@ -1,12 +1,12 @@
 -- What a search gives, and what it has still to give.
 use Rattle.std.proofs.lemmas.Grind.{common_steps}
-use Rattle.std.proofs.Common.{◌≡◌, ◌≢◌, ℕ, zero, suc, ◌+◌, ◌<◌, ◌≤◌, ◌==◌, List, [], ◌∷◌, ◌++◌, length, get_or, cond, refl, ap, ◌∙◌, arith, inl, inr}
+use Rattle.std.proofs.Common.{◌≡◌, ◌≢◌, ℕ, zero, suc, ◌+◌, ◌<◌, ◌≤◌, ◌==◌, List, [], ◌∷◌, ◌++◌, length, get_or, cond, refl, arith, inl, inr}
 use Rattle.std.specs.Int.{bit_at}
 use Rattle.std.proofs.lemmas.Bool.{cases_eq}
 use Rattle.std.proofs.lemmas.Nat.Bits.{bit_at-lt}
 use Rattle.std.proofs.lemmas.Bool.Decides.{eqb_tells}
 use Rattle.intaglio_records.specs.declared.line.Line.{Line}
-use Rattle.intaglio_records.specs.Line.{Entry, tag_of, AreIn, IsLine}
+use Rattle.intaglio_records.specs.Line.{Entry, AreIn, IsLine}
 use Rattle.intaglio_records.specs.Chains.{Overflow, newest, no_line, AreBehind}
 use Rattle.intaglio_records.specs.declared.search.Candidates.{Candidates}
 use Rattle.intaglio_records.specs.Search.{slots_with, overflow_slots, picked, bits_below, IsLeft}
@@ -32,11 +32,6 @@ picked-first bits fewer slots p (suc n) lt here below gone others =
           (λ i l. others i (omega (arith, l))) in
           rw (rest, others n (omega arith) other) refl)
     ]
-
--- a bit that says whether two tags are equal picks a slot exactly if they are
-pick-same : (g t bit : ℕ) (front : List ℕ) (slot : ℕ) → bit ≡ cond (g == t) 1 0 →
-    front ++ cond (bit == 1) (slot ∷ []) [] ≡ front ++ cond (g == t) (slot ∷ []) []
-pick-same g t bit front slot is = grind (arith, common_steps)
 
 -- the bits of a tag pick the slots of the entries with it
 pub picked-fresh : (bits tag : ℕ) (tags slots : List ℕ) (es : List Entry) → AreIn tags slots es →

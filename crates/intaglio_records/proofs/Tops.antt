@@ -1,6 +1,6 @@
 -- How many overflow lines there are: every eleventh entry of a class makes one.
 use Rattle.std.proofs.lemmas.Grind.{common_steps}
-use Rattle.std.proofs.Common.{◌≡◌, ◌≢◌, ◌⊎◌, ℕ, zero, suc, ◌+◌, ◌*◌, ◌%◌, ◌<◌, ◌≤◌, ◌==◌, List, [], ◌∷◌, length, cond, refl, sym, ap, ◌∙◌, arith, inl, inr, mod-lt}
+use Rattle.std.proofs.Common.{◌≡◌, ◌≢◌, ◌⊎◌, ℕ, zero, suc, ◌+◌, ◌*◌, ◌%◌, ◌<◌, ◌≤◌, ◌==◌, List, [], ◌∷◌, length, cond, refl, sym, arith, inl, inr, mod-lt}
 use Rattle.std.proofs.lemmas.Bool.{cases_eq, cases_lt, lt-ltb, cond-false, eq-eqb, ne_eqb}
 use Rattle.std.proofs.lemmas.Bool.Decides.{eqb_tells}
 use Rattle.intaglio_records.specs.Line.{Entry}
@@ -40,6 +40,9 @@ pub overflow-new : (base : ℕ) (e : Entry) (es : List Entry) → 11 ≤ length 
     overflow base (e ∷ es) ≡ (e.0 % base, e ∷ []) ∷ overflow base es
 overflow-new base e es full none = grind (arith, common_steps)
 
+-- what an entry does to the overflow lines
+pub ruleset spilling = (common_steps, cases_lt, overflow-same, overflow-add, overflow-new)
+
 -- the newest overflow line of a class
 length-other : (k c : ℕ) (e : Entry) (os : List Overflow) → k ≢ c →
     newest_length k (add c e os) ≡ newest_length k os
@@ -61,34 +64,12 @@ length-none base c (o ∷ os) some none = grind (arith, common_steps, eqb_tells,
 -- one more entry doesn't change which overflow line of another class is the newest
 newest-other : (base k : ℕ) (e : Entry) (es : List Entry) → k ≢ e.0 % base →
     newest base k (overflow base (e ∷ es)) ≡ newest base k (overflow base es)
-newest-other base k e es other =
-    grind (
-      arith,
-      common_steps,
-      cases_lt,
-      overflow-same,
-      overflow-add,
-      newest-add,
-      overflow-new,
-      cond-false,
-      ne_eqb,
-    )
+newest-other base k e es other = grind (arith, spilling, newest-add, cond-false, ne_eqb)
 
 -- one more entry doesn't change how many entries the newest overflow line of another class has
 newest_length-other : (base k : ℕ) (e : Entry) (es : List Entry) → k ≢ e.0 % base →
     newest_length k (overflow base (e ∷ es)) ≡ newest_length k (overflow base es)
-newest_length-other base k e es other =
-    grind (
-      arith,
-      common_steps,
-      cases_lt,
-      overflow-same,
-      overflow-add,
-      length-other,
-      overflow-new,
-      cond-false,
-      ne_eqb,
-    )
+newest_length-other base k e es other = grind (arith, spilling, length-other, cond-false, ne_eqb)
 
 -- how many entries the line has that takes the next entry of a class, or that is full
 abbrev pub top : ℕ → ℕ → List Entry → ℕ
@@ -124,32 +105,10 @@ pub top-few : (base c : ℕ) (es : List Entry) → top base c es ≤ 11
 top-few base c [] = omega arith
 top-few base c (e ∷ es) = grind (arith, common_steps, eqb_tells, top-few base c es)
 
--- a new overflow line
-new-top : (base : ℕ) (e : Entry) (es : List Entry) → 0 < base →
-    11 ≤ length (first_line base (e.0 % base) es) → 11 ≤ newest_length (e.0 % base) (overflow base es) →
-    top base (e.0 % base) es ≡ 11 →
-    length (first_line base (e.0 % base) es) ≡ 11 → IsTop base (e.0 % base) (e ∷ es)
-new-top base e es some full none at whole = grind (arith, common_steps)
-
 -- an entry of the class itself
 top-here : (base : ℕ) (e : Entry) (es : List Entry) → 0 < base → IsTop base (e.0 % base) es →
     IsTop base (e.0 % base) (e ∷ es)
-top-here base e es some old =
-    grind (
-      arith,
-      common_steps,
-      top-few,
-      cases_lt,
-      overflow-same,
-      first-here,
-      top-more,
-      new-top,
-      length-none,
-      overflow-add,
-      newest-add,
-      first-full,
-      length-here,
-    )
+top-here base e es some old = grind (arith, spilling, top-few, first-here, first-full, top-full, top-more, length-none, newest-add, length-here)
 
 -- if there is a first line, the top line of a class is its newest overflow line, or its first if it has none
 pub is-top : (base c : ℕ) (es : List Entry) → 0 < base → IsTop base c es

@@ -1,8 +1,7 @@
 use Rattle.std.proofs.lemmas.Grind.{common_steps}
-use Rattle.std.proofs.Common.{◌≡◌, ℕ, eqb, cond, false, map, ap, ◌∙◌, arith, w8, length}
+use Rattle.std.proofs.Common.{◌≡◌, eqb, arith, w8, length}
 use Rattle.std.proofs.lemmas.Simd.{bitmask_splat, bit_mask_l}
 use Rattle.std.proofs.lemmas.List.{get_or-map, get_or_past, length-map}
-use Rattle.std.specs.Int.{bit_at}
 use Rattle.intaglio_records.proofs.line.Line.equal.Goals as goal
 
 pub returns-clause-bits : goal.returns-clause-bits
