@@ -41,19 +41,7 @@ pub behind-kept : (base : ℕ) (lines : List Line) (i : ℕ) (x : Line) (os : Li
 behind-kept base lines i x os out are =
     behind-same base lines (set lines i x) os (λ k ge lt. get_or-set_other lines i k x no_line (out k ge lt)) are
 
--- the newest overflow line of a class
-pub newest-line : (base c : ℕ) (lines : List Line) (os : List Overflow) → AreBehind base lines os →
-    0 < newest base c os →
-    (es : List Entry) × (older : ℕ) × (IsLine (get_or lines (newest base c os) no_line) es older)
-    × (newest_length c os ≡ length es)
-newest-line base c lines [] are some = absurd (omega (arith, some))
-newest-line base c lines (o ∷ os) are some =
-    elim (eqb_tells o.0 c) [
-      | inl h ↦ rw h.0 (o.1, newest base o.0 os, are.0, refl)
-      | inr h ↦ rw h.0 (newest-line base c lines os are.1 (rw h.0 at some))
-    ]
-
--- an entry is added to it
+-- an entry is added to the newest overflow line of its class
 pub behind-add : (base c n : ℕ) (e : Entry) (lines : List Line) (x : Line) (os : List Overflow) →
     n ≡ newest base c os → 0 < n → base + length os ≤ length lines →
     ((es : List Entry) (next : ℕ) → IsLine (get_or lines n no_line) es next → IsLine x (e ∷ es) next) →

@@ -8,7 +8,7 @@ use Rattle.std.proofs.lemmas.List.Sorted.{IsPermutation-refl, IsPermutation-tran
 use Rattle.intaglio_records.specs.Line.{Entry, tag_of}
 use Rattle.intaglio_records.specs.Chains.{Overflow, first_line, add, overflow, newest}
 use Rattle.intaglio_records.specs.Search.{slots_with, overflow_slots, slots_of, AreFound}
-use Rattle.intaglio_records.proofs.Tops.{spilling, first-other, first-here, is-top, length-none}
+use Rattle.intaglio_records.proofs.Tops.{spilling, first-full, first-other, first-here, is-top, length-none}
 
 -- an entry in the middle
 inserted : (one front behind : List ℕ) → IsPermutation (one ++ (front ++ behind)) ((front ++ one) ++ behind)
@@ -51,15 +51,11 @@ found-behind : (base tag : ℕ) (e : Entry) (es : List Entry) (behind : List ℕ
     IsPermutation (one_of tag e ++ overflow_slots (e.0 % base) tag (overflow base es)) behind →
     IsPermutation (one_of tag e ++ found base (e.0 % base) tag es) (found base (e.0 % base) tag (e ∷ es))
 found-behind base tag e es behind full is perm =
-    let c = e.0 % base in
+    let c = e.0 % base in let one = one_of tag e in let rest = overflow_slots c tag (overflow base es) in
     let front = slots_with tag (first_line base c es) in
-    let rest = overflow_slots c tag (overflow base es) in
-    let whole : found base c tag (e ∷ es) ≡ front ++ behind = grind (arith, common_steps) in
-    subst (λ xs. IsPermutation (one_of tag e ++ (front ++ rest)) xs) (sym whole)
-    (IsPermutation-trans (one_of tag e ++ (front ++ rest)) (front ++ (one_of tag e ++ rest)) (front ++ behind)
-    (subst (λ xs. IsPermutation (one_of tag e ++ (front ++ rest)) xs) (append_assoc front (one_of tag e) rest)
-    (inserted (one_of tag e) front rest))
-    (IsPermutation-append_right front (one_of tag e ++ rest) behind perm))
+    rw (first-full base e es full c, is)
+    (IsPermutation-trans _ _ _ (rw (append_assoc front one rest) at (inserted one front rest))
+    (IsPermutation-append_right front _ behind perm))
 
 -- if there is a first line, one more entry adds its slot to those of its class, if it has the tag
 found-here : (base tag : ℕ) (e : Entry) (es : List Entry) → 0 < base →

@@ -6,7 +6,8 @@ use Rattle.intaglio_records.specs.declared.line.Line.{Line}
 use Rattle.intaglio_records.specs.Line.{Entry, IsLine}
 use Rattle.intaglio_records.specs.Chains.{first_line, newest_length, overflow, newest, no_line, AreChains, IsFilled, firsts_of}
 use Rattle.intaglio_records.specs.declared.lines.Lines.{Lines}
-use Rattle.intaglio_records.proofs.ChainLemmas.{add-length, newest-add, newest-at, behind-add, chains-first, chains-new, read-line, newest-line}
+use Rattle.intaglio_records.proofs.ChainLemmas.{add-length, newest-add, newest-at, behind-add, chains-first, chains-new, read-line}
+use Rattle.intaglio_records.proofs.Searching.{next-line}
 use Rattle.intaglio_records.proofs.Tops.{first-other, first-here, first-full, overflow-same, overflow-add, overflow-new, is-top, top-few, needed}
 
 -- lines with the same room are filled with other entries if their chains have these
@@ -86,11 +87,10 @@ module _ (lines : Lines) (es : List Entry) (filled : IsFilled lines es) (c : ℕ
         × (newest_length c (overflow lines.base es) ≡ length xs)
     other-is some x e =
         let found =
-        newest-line lines.base c lines.lines.items (overflow lines.base es) filled.chains.behind
-        (omega (arith, is, some)) in (
+        next-line lines.base c 0 n lines.lines.items (overflow lines.base es) filled.chains.behind is
+        (omega (arith, some)) in (
           found.0,
-          found.1,
-          read-line lines.lines.items n x found.0 found.1 (newest-in (omega (arith, some))) e
-              (subst (λ i. IsLine (get_or lines.lines.items i no_line) found.0 found.1) (sym is) found.2),
-          found.3,
+          newest lines.base c found.1,
+          read-line lines.lines.items n x _ _ (newest-in (omega (arith, some))) e found.2,
+          found.7,
         )

@@ -1,13 +1,13 @@
 -- What a search gives, and what it has still to give.
 use Rattle.std.proofs.lemmas.Grind.{common_steps}
-use Rattle.std.proofs.Common.{◌≡◌, ◌≢◌, ℕ, zero, suc, ◌+◌, ◌<◌, ◌≤◌, ◌==◌, List, [], ◌∷◌, ◌++◌, length, get_or, cond, refl, arith, inl, inr}
+use Rattle.std.proofs.Common.{◌≡◌, ◌≢◌, ℕ, zero, suc, ◌+◌, ◌<◌, ◌≤◌, ◌==◌, List, [], ◌∷◌, ◌++◌, length, get_or, cond, refl, subst, arith, inl, inr}
 use Rattle.std.specs.Int.{bit_at}
 use Rattle.std.proofs.lemmas.Bool.{cases_eq}
 use Rattle.std.proofs.lemmas.Nat.Bits.{bit_at-lt}
 use Rattle.std.proofs.lemmas.Bool.Decides.{eqb_tells}
 use Rattle.intaglio_records.specs.declared.line.Line.{Line}
 use Rattle.intaglio_records.specs.Line.{Entry, AreIn, IsLine}
-use Rattle.intaglio_records.specs.Chains.{Overflow, newest, no_line, AreBehind}
+use Rattle.intaglio_records.specs.Chains.{Overflow, newest, newest_length, no_line, AreBehind}
 use Rattle.intaglio_records.specs.declared.search.Candidates.{Candidates}
 use Rattle.intaglio_records.specs.Search.{slots_with, overflow_slots, picked, bits_below, IsLeft}
 
@@ -26,11 +26,7 @@ picked-first bits fewer slots p zero lt here below gone others = absurd (omega (
 picked-first bits fewer slots p (suc n) lt here below gone others =
     elim (cases_eq n p) [
       | inl same ↦ grind (arith, common_steps, picked-none)
-      | inr other ↦
-          (let rest =
-          picked-first bits fewer slots p n (omega (arith, lt, other)) here below gone
-          (λ i l. others i (omega (arith, l))) in
-          rw (rest, others n (omega arith) other) refl)
+      | inr other ↦ grind (arith, common_steps, others n (omega arith) other, picked-first bits fewer slots p n (omega (arith, lt, other)) here below gone (λ i l. others i (omega (arith, l))))
     ]
 
 -- the bits of a tag pick the slots of the entries with it
@@ -47,19 +43,22 @@ pub bits-within : (line : Line) (es : List Entry) (next bits tag : ℕ) → IsLi
 bits-within line es next bits tag is some low high i set = grind (arith, common_steps)
 
 -- the next line of a chain
-pub next-line : (base c tag : ℕ) (lines : List Line) (os : List Overflow) → AreBehind base lines os →
-    0 < newest base c os →
+pub next-line : (base c tag n : ℕ) (lines : List Line) (os : List Overflow) → AreBehind base lines os →
+    n ≡ newest base c os → 0 < n →
     (es : List Entry) × (older : List Overflow)
-    × IsLine (get_or lines (newest base c os) no_line) es (newest base c older) × AreBehind base lines older
+    × IsLine (get_or lines n no_line) es (newest base c older) × AreBehind base lines older
     × (overflow_slots c tag os ≡ slots_with tag es ++ overflow_slots c tag older) × (length older < length os)
-    × (newest base c os ≡ base + length older)
-next-line base c tag lines [] are some = absurd (omega (arith, some))
-next-line base c tag lines (o ∷ os) are some =
+    × (n ≡ base + length older) × (newest_length c os ≡ length es)
+next-line base c tag n lines [] are is some = absurd (omega (arith, is, some))
+next-line base c tag n lines (o ∷ os) are is some =
     elim (eqb_tells o.0 c) [
-      | inl h ↦ grind (arith, common_steps)
+      | inl h ↦
+          (let here : n ≡ base + length os = rw h.0 at is in
+          let line = subst (λ k. IsLine (get_or lines n no_line) o.1 (newest base k os)) h.1 (rw here are.0) in
+          rw h.0 (o.1, os, line, are.1, refl, omega arith, here, refl))
       | inr h ↦
-          (let rest = next-line base c tag lines os are.1 (rw h.0 at some) in
-          rw h.0 (rest.0, rest.1, rest.2, rest.3, rest.4, omega (arith, rest.5), rest.6))
+          (let rest = next-line base c tag n lines os are.1 (rw h.0 at is) some in
+          rw h.0 (rest.0, rest.1, rest.2, rest.3, rest.4, omega (arith, rest.5), rest.6, rest.7))
     ]
 
 -- there is none
@@ -71,7 +70,7 @@ overflow-none base c tag (o ∷ os) some none = grind (arith, common_steps, eqb_
 -- the next line of a search, if its number isn't 0, is one of the lines
 pub next-inside : (search : Candidates) (left : List ℕ) (is : IsLeft search left) → search.next ≢ 0 →
     search.next < length search.lines.now
-next-inside search left is more = grind (arith, common_steps, next-line is.base is.class search.tag search.lines.now is.behind is.lines, is.size)
+next-inside search left is more = grind (arith, common_steps, next-line is.base is.class search.tag search.next search.lines.now is.behind is.lines is.next, is.size)
 
 -- at most n of n bits are set
 pub bits-few : (bits n : ℕ) → bits_below bits n ≤ n

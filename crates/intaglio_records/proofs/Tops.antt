@@ -146,11 +146,7 @@ grown : (base : ℕ) (e : Entry) (es : List Entry) → 0 < base →
     top base (e.0 % base) (e ∷ es) + 11 * length (overflow base (e ∷ es))
     ≡ suc (top base (e.0 % base) es + 11 * length (overflow base es))
 grown base e es some =
-    let c = e.0 % base in let os = overflow base es in
-    elim (is-top base c es some) [
-      | inl h ↦ grind (arith, common_steps, cases_lt, overflow-same, top-more, overflow-new, length-none, top-full, top-few)
-      | inr h ↦ grind (arith, common_steps, cases_lt, overflow-add, add-length, top-more, overflow-new, top-full, top-few)
-    ]
+    grind (arith, spilling, is-top base (e.0 % base) es some, add-length, top-more, length-none, top-full, top-few)
 
 -- the lines that aren't full, and eleven for each overflow line
 pub counted : (base : ℕ) (es : List Entry) → 0 < base →

@@ -20,29 +20,27 @@ bounds-self-self c = next-inside c.args.self.now c.requires.search.0 c.requires.
 pub returns-clause-left : goal.returns-clause-left
 returns-clause-left c left is =
     let s = c.args.self.now in
-    let some : 0 < newest is.base is.class is.behind = omega (arith, is.next, c.requires.more) in
-    let there = next-line is.base is.class s.tag s.lines.now is.behind is.lines some in
-    let line = subst (λ i. IsLine (get_or s.lines.now i no_line) there.0 (newest is.base is.class there.1))
-    (sym is.next) there.2 in
+    let there = next-line is.base is.class s.tag s.next s.lines.now is.behind is.lines is.next
+    (omega (arith, c.requires.more)) in
     let b = c.equal-self.ensures in
     let slots = (get_or s.lines.now s.next no_line).slots in
     let old =
     picked-none s.equal (get_or s.lines.now s.line no_line).slots is.count
     (λ i lt. ap (λ n. bit_at n i) c.requires.done ∙ bit_at-zero i) in
     let fresh = picked-fresh c.equal-self.result s.tag (get_or s.lines.now s.next no_line).tags slots there.0
-    line.entries (λ i lt. b.bits i (omega (arith, lt, line.few))) in
+    there.2.entries (λ i lt. b.bits i (omega (arith, lt, there.2.few))) in
     record {
       base = is.base;
       class = is.class;
       count = length there.0;
       behind = there.1;
       some = is.some;
-      few = line.few;
+      few = there.2.few;
       bits = grind (arith, common_steps);
       line = λ some. next-inside s left is c.requires.more;
       based = is.based;
       size = λ some. omega (arith, is.size (omega (arith, there.5)), there.5);
-      next = c.next.ensures there.0 (newest is.base is.class there.1) line;
+      next = c.next.ensures there.0 (newest is.base is.class there.1) there.2;
       lines = there.3;
       left_is = is.left_is ∙ ap (λ front. front ++ overflow_slots is.class s.tag is.behind) old ∙ there.4
           ∙ ap (λ front. front ++ overflow_slots is.class s.tag there.1) (sym fresh);
@@ -51,8 +49,6 @@ returns-clause-left c left is =
 pub returns-clause-older : goal.returns-clause-older
 returns-clause-older c =
     let s = c.args.self.now in let is = c.requires.search.1 in
-    let some : 0 < newest is.base is.class is.behind = omega (arith, is.next, c.requires.more) in
-    let there = next-line is.base is.class s.tag s.lines.now is.behind is.lines some in
-    let line = subst (λ i. IsLine (get_or s.lines.now i no_line) there.0 (newest is.base is.class there.1))
-    (sym is.next) there.2 in
-    omega (arith, c.next.ensures there.0 (newest is.base is.class there.1) line, (newest-at is.base is.class there.1).1, is.based)
+    let there = next-line is.base is.class s.tag s.next s.lines.now is.behind is.lines is.next
+    (omega (arith, c.requires.more)) in
+    omega (arith, c.next.ensures there.0 (newest is.base is.class there.1) there.2, (newest-at is.base is.class there.1).1, is.based)
