@@ -22,8 +22,7 @@ loop-i-preserved c =
     let placed = c.place.ensures.placed (entries long rs i) (omega (arith, length-entries long rs i)) c.loop-i.invariant.filled in
     let slot = c.slot_for.ensures ∙ ap (slot_of long i) c.start.ensures in
     record {
-      filled = subst (λ es. IsFilled c.place.new.self es) (ap (λ s. (hash, s) ∷ entries long rs i) slot
-          ∙ sym more) placed;
+      filled = grind (arith, common_steps, slot, more, placed);
       places = omega (arith, c.place.ensures.room, c.loop-i.invariant.places);
       tight = omega (arith, c.place.ensures.room, c.loop-i.invariant.tight);
     }

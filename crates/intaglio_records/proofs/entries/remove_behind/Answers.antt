@@ -1,3 +1,4 @@
+use Rattle.std.proofs.lemmas.Grind.{common_steps}
 use Rattle.std.proofs.Common.{◌≡◌, ◌+◌, ◌-◌, arith, ap, ◌∙◌, subst}
 use Rattle.intaglio_records.specs.Chains.{IsFilled}
 use Rattle.intaglio_records.specs.Entries.{entries, position, slot_of}
@@ -8,14 +9,10 @@ pub remove_newest-requires : goal.remove_newest-requires
 remove_newest-requires c =
     let long = c.args.is_long in
     let rs = c.args.records.now.list in
-    let n = c.loop-count.count - 1 in
-    let more =
-    entry-more long rs n c.read_hash.result c.string.result.now c.string.ensures c.read_hash.ensures in
-    let at : c.loop-count.count ≡ n + 1 = omega (arith, c.loop-count-test.true) in (
+    let n = c.loop-count.count - 1 in (
       slot_of long n (position rs n),
       entries long rs n,
-      subst (λ es. IsFilled c.loop-count.lines es) (ap (entries long rs) at
-          ∙ more) c.loop-count.invariant.filled,
+      grind (arith, common_steps, entry-more long rs n c.read_hash.result c.string.result.now c.string.ensures c.read_hash.ensures),
     )
 
 pub loop-count-preserved : goal.loop-count-preserved

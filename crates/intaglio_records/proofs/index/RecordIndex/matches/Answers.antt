@@ -25,9 +25,8 @@ returns c =
     let filled = subst (λ es. IsFilled c.args.self.now.lines es) all c.requires.filled in
     let slots = candidates base hash es in
     let perm = c.find-candidates.ensures.found es filled in
-    let size : length xs ≡ length rs = ap length (sym c.buffer.ensures.list) ∙ length-map rs pair_of in
     let few : length rs ≤ 2 ^ 32 =
-    omega (arith, size, c.requires.within, c.requires.places, c.requires.filled.small) in
+    omega (arith, ap length c.buffer.ensures.list, length-map rs pair_of, c.requires.within, c.requires.places, c.requires.filled.small) in
     rw (← c.buffer.ensures.list) (
       numbers_with hash (concat rs) (map (begin_of long rs) slots),
       record {

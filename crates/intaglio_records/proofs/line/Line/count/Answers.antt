@@ -12,15 +12,8 @@ set_is_none tag one = grind (arith, common_steps)
 pub returns : goal.returns
 returns c es next is =
     let m = c.equal.result in
-    let bits = c.equal.ensures.bits in
-    let at = length es in
-    let tags = c.args.self.now.tags in
-    let here : bit_at m at ≡ 1 =
-    bits at (omega (arith, is.few)) ∙ ap (λ tag. cond (tag == 0) 1 0) (is.others at (omega arith)) in
+    let here : bit_at m (length es) ≡ 1 =
+    c.equal.ensures.bits (length es) (omega (arith, is.few)) ∙ ap (λ tag. cond (tag == 0) 1 0) (is.others (length es) (omega arith)) in
     let some : 0 < m = grind (arith, common_steps) in
     let lowest = bit_at-trailing_zeros w64 m some (omega arith) in
-    elim (cases_order (trailing_zeros w64 m) at) [
-      | inl same ↦ same
-      | inr (inl below) ↦ grind (arith, common_steps, w64, set_is_none, entry-tag)
-      | inr (inr above) ↦ absurd (omega (arith, sym here ∙ lowest.2 at above))
-    ]
+    grind (arith, common_steps, w64, set_is_none, entry-tag, cases_order (trailing_zeros w64 m) (length es), lowest.2 (length es), c.equal.ensures.bits)

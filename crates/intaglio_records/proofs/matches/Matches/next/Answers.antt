@@ -88,12 +88,9 @@ returns-clause-gives c xs hash left was =
 
 pub returns-then-read_hash-self-clause-search : goal.returns-then-read_hash-self-clause-search
 returns-then-read_hash-self-clause-search c =
-    let was = c.requires in
-    let given = returns-then-read_hash-self-clause-gives c was.0 was.1 was.2 was.3 in
-    (was.0, was.1, given.0, given.2)
+    let given = returns-then-read_hash-self-clause-gives c c.requires.0 c.requires.1 c.requires.2 c.requires.3 in
+    (c.requires.0, c.requires.1, given.0, given.2)
 
 pub returns-clause-search : goal.returns-clause-search
-returns-clause-search c =
-    let was = c.requires in
-    let given = returns-clause-gives c was.0 was.1 was.2 was.3 in
-    (was.0, was.1, was.2, given.1)
+returns-clause-search c = let given = returns-clause-gives c c.requires.0 c.requires.1 c.requires.2 c.requires.3 in
+    (c.requires.0, c.requires.1, c.requires.2, given.1)

@@ -10,9 +10,7 @@ use Rattle.intaglio_records.proofs.Searching.{next-line, next-inside, picked-non
 use Rattle.intaglio_records.proofs.search.Candidates.advance.Goals as goal
 
 pub offset_bounds-self-self : goal.offset_bounds-self-self
-offset_bounds-self-self c = let inside =
-    next-inside c.args.self.now c.requires.search.0 c.requires.search.1 c.requires.more in let fits =
-    c.fits-self in omega arith
+offset_bounds-self-self c = grind (arith, common_steps, next-inside c.args.self.now c.requires.search.0 c.requires.search.1 c.requires.more)
 
 pub bounds-self-self : goal.bounds-self-self
 bounds-self-self c = next-inside c.args.self.now c.requires.search.0 c.requires.search.1 c.requires.more

@@ -9,15 +9,8 @@ use Rattle.intaglio_records.proofs.search.Candidates.next.Goals as goal
 
 pub returns-then-self-eq0-clause-gives : goal.returns-then-self-eq0-clause-gives
 returns-then-self-eq0-clause-gives c left was =
-    let s = c.loop-self.self in
     let is = c.loop-self.invariant.left left was in
-    let old =
-    picked-none s.equal (get_or s.lines.now s.line no_line).slots is.count
-    (λ i lt. ap (λ n. bit_at n i) c.loop-self-test.true ∙ bit_at-zero i) in (
-      is.left_is ∙ ap (λ front. front ++ overflow_slots is.class s.tag is.behind) old
-          ∙ overflow-none is.base is.class s.tag is.behind is.based (sym is.next ∙ c.if-self-eq0.true),
-      is,
-    )
+    (grind (arith, common_steps, is.left_is, is.next, is.based, picked-none, bit_at-zero, overflow-none), is)
 
 pub slot-requires : goal.slot-requires
 slot-requires c =
@@ -78,12 +71,8 @@ returns-clause-fewer c =
     let is = c.loop-self.invariant.search.1 in
     let p = trailing_zeros w64 s.equal in
     let low = bit_at-trailing_zeros w64 s.equal (omega (arith, c.loop-self-test.false)) (omega arith) in
-    let gone : bit_at (bit_and s.equal (2 ^ 64 - 1 - 1 * 2 ^ p % 2 ^ 64)) p ≡ 0 =
-    bit_at_clear_same w64 s.equal p low.0 in
-    let fewer =
-    bits-fewer s.equal (bit_and s.equal (2 ^ 64 - 1 - 1 * 2 ^ p % 2 ^ 64)) p 11
-    (omega (arith, is.bits p low.0 low.1, is.few)) low.1 gone
-    (λ i l. bit_at_clear_other w64 s.equal p low.0 i (omega (arith, l))) in
+    let fewer = bits-fewer s.equal (bit_and s.equal (2 ^ 64 - 1 - 1 * 2 ^ p % 2 ^ 64)) p 11 (omega (arith, is.bits p low.0 low.1, is.few)) low.1
+    (bit_at_clear_same w64 s.equal p low.0) (λ i l. bit_at_clear_other w64 s.equal p low.0 i (omega (arith, l))) in
     omega (arith, fewer, c.loop-self.invariant.fewer)
 
 pub returns-clause-search : goal.returns-clause-search
