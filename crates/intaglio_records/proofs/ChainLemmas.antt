@@ -90,13 +90,11 @@ chains-new base c e lines f os x y within are first leads =
     let here : newest base c ((c, e ∷ []) ∷ os) ≡ length lines =
     cond-true (c == c) (base + length os) (newest base c os) (eq-eqb c c refl) ∙ sym are.size in
     let apart : base + length os ≢ c = λ same. omega (arith, within, same) in
-    let at : get_or more (base + length os) no_line ≡ x = ap (λ n. get_or more n no_line) (sym are.size)
-    ∙ get_or-append_seam lines x [] no_line in
     record {
       size = length-set more c y ∙ omega (arith, long, are.size);
       firsts_are = grind (arith, common_steps);
       behind = (
-        rw (get_or-set_other more c (base + length os) y no_line apart, at) first,
+        grind (arith, common_steps, get_or-set_other more c (base + length os) y no_line apart, get_or-append_seam lines x [] no_line, are.size, first),
         behind-same base lines (set more c y) os (λ k ge lt.
             get_or-set_other more c k y no_line (λ same. omega (arith, ge, within, same))
             ∙ get_or_append_left lines (x ∷ []) no_line k (omega (arith, lt, are.size))) are.behind,

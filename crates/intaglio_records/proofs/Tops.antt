@@ -15,8 +15,7 @@ first-other base k e es other = rw (ne_eqb (e.0 % base) k (λ same. other (sym s
 -- an entry is added to the first line of its class, if that isn't full
 pub first-here : (base : ℕ) (e : Entry) (es : List Entry) → length (first_line base (e.0 % base) es) < 11 →
     first_line base (e.0 % base) (e ∷ es) ≡ e ∷ first_line base (e.0 % base) es
-first-here base e es lt =
-    rw (eq-eqb (e.0 % base) (e.0 % base) refl, lt-ltb (length (first_line base (e.0 % base) es)) 11 lt) refl
+first-here base e es lt = grind (arith, common_steps, eq-eqb, lt-ltb)
 
 -- if the first line of its class is full, an entry changes no first line
 pub first-full : (base : ℕ) (e : Entry) (es : List Entry) → 11 ≤ length (first_line base (e.0 % base) es) →
@@ -91,14 +90,12 @@ top-other base k e es other = rw (ne_eqb (e.0 % base) k (λ same. other (sym sam
 -- if the top line of a class has eleven entries, the top line after one more entry has one
 pub top-full : (base : ℕ) (e : Entry) (es : List Entry) → top base (e.0 % base) es ≡ 11 →
     top base (e.0 % base) (e ∷ es) ≡ 1
-top-full base e es full =
-    rw (eq-eqb (e.0 % base) (e.0 % base) refl, eq-eqb (top base (e.0 % base) es) 11 full) refl
+top-full base e es full = grind (arith, common_steps, eq-eqb)
 
 -- if the top line of a class doesn't have eleven entries, the top line after one more entry has one more
 pub top-more : (base : ℕ) (e : Entry) (es : List Entry) → top base (e.0 % base) es ≢ 11 →
     top base (e.0 % base) (e ∷ es) ≡ suc (top base (e.0 % base) es)
-top-more base e es room =
-    rw (eq-eqb (e.0 % base) (e.0 % base) refl, ne_eqb (top base (e.0 % base) es) 11 room) refl
+top-more base e es room = grind (arith, common_steps, eq-eqb, ne_eqb)
 
 -- a top line has at most eleven entries
 pub top-few : (base c : ℕ) (es : List Entry) → top base c es ≤ 11

@@ -16,13 +16,10 @@ loop-i-preserved c =
     let long = c.args.is_long in
     let rs = c.args.records.now.list in
     let i = c.loop-i.i in
-    let within : i < length rs = omega (arith, c.loop-i-test.true) in
-    let hash = c.read_hash-hash.result in
-    let more = entry-more long rs i hash c.string.result.now c.string.ensures c.read_hash-hash.ensures in
+    let more = entry-more long rs i c.read_hash-hash.result c.string.result.now c.string.ensures c.read_hash-hash.ensures in
     let placed = c.place.ensures.placed (entries long rs i) (omega (arith, length-entries long rs i)) c.loop-i.invariant.filled in
-    let slot = c.slot_for.ensures ∙ ap (slot_of long i) c.start.ensures in
     record {
-      filled = grind (arith, common_steps, slot, more, placed);
+      filled = grind (arith, common_steps, c.slot_for.ensures, c.start.ensures, more, placed);
       places = omega (arith, c.place.ensures.room, c.loop-i.invariant.places);
       tight = omega (arith, c.place.ensures.room, c.loop-i.invariant.tight);
     }

@@ -28,8 +28,6 @@ returns-clause-left c es filled =
     let fresh =
     picked-fresh c.equal.result tag x.tags x.slots F read.entries
     (λ i lt. b.bits i (omega (arith, lt, read.few))) in
-    let named : candidates base c.args.hash es ≡ slots_with tag F ++ overflow_slots first tag os =
-    rw (c.class-first.ensures, c.tag_of-tag.ensures) refl in
     record {
       base = base;
       class = first;

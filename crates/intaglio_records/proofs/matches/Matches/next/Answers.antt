@@ -59,11 +59,8 @@ loop-slot-preserved c =
           let next =
           stepped xs hash m c.next.new.self c.in-Some.slot c.begin-at.result left c.begin-at.ensures now
           c.in-Some.ensures.gives in
-          subst (λ l. IsLeft xs hash (record m {
-            candidates =
-                c.next.new.self;
-          }) l) (sym (next.other (λ same. c.if-read_hash-self.false
-          (rw c.bytes-bytes.ensures at c.read_hash.ensures ∙ same ∙ sym now.hash_is)))) next.is);
+          rw (next.other (λ same. c.if-read_hash-self.false
+          (rw c.bytes-bytes.ensures at c.read_hash.ensures ∙ same ∙ sym now.hash_is))) next.is);
       fewer = omega (arith, c.in-Some.ensures.fewer, c.loop-slot.invariant.fewer);
     }
 

@@ -35,8 +35,7 @@ returns-clause-gives c left was =
     (λ i l. others i (omega (arith, l, is.few))) in
     let rest = picked fewer slots is.count ++ overflow_slots is.class s.tag is.behind in (
       rest,
-      is.left_is ∙ ap (λ front. front ++ overflow_slots is.class s.tag is.behind) first
-          ∙ ap (λ slot. slot ∷ rest) (sym c.slot.ensures),
+      grind (arith, is.left_is, first, c.slot.ensures),
       record {
         base = is.base;
         class = is.class;
