@@ -34,14 +34,12 @@ byte-at rs i k l within = grind (arith, common_steps, get_or-drop (position rs i
 pub string-there : (rs : List (List ℕ)) (i start n : ℕ) → i < length rs → start ≡ position rs i + 13
     → n + 13 ≡ length (get_or rs i [])
     → slice_range (concat rs) start (start + n) ≡ drop 13 (get_or rs i [])
-string-there rs i start n l s e =
+string-there rs i start n l s e = 
     let r = get_or rs i [] in
-    let rest = concat (drop (suc i) rs) in
     let size : start + n - start ≡ n = omega arith in
-    let front : drop start (concat rs) ≡ drop 13 r ++ rest =
-    ap (λ k. drop k (concat rs)) s ∙ sym (drop-drop 13 (position rs i) (concat rs))
-    ∙ ap (drop 13) (part-at rs i l) ∙ drop-append-le 13 r rest (omega (arith, e)) in
-    rw (size, front) (take-append-le n (drop 13 r) rest (omega (arith, e, length-drop 13 r))
+    let front : drop start (concat rs) ≡ drop 13 r ++ concat (drop (suc i) rs) =
+    rw (s, ← drop-drop 13 (position rs i) (concat rs), part-at rs i l) (drop-append-le 13 r _ (omega (arith, e))) in
+    rw (size, front) (take-append-le n (drop 13 r) _ (omega (arith, e, length-drop 13 r))
     ∙ take_all n (drop 13 r) (omega (arith, e, length-drop 13 r)))
 
 -- what is known of record i, which begins at this byte

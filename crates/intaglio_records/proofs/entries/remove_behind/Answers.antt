@@ -1,5 +1,5 @@
 use Rattle.std.proofs.lemmas.Grind.{common_steps}
-use Rattle.std.proofs.Common.{◌≡◌, ◌+◌, ◌-◌, arith, ap, ◌∙◌, subst}
+use Rattle.std.proofs.Common.{◌≡◌, ◌∷◌, ◌+◌, ◌-◌, arith, ap, ◌∙◌, subst}
 use Rattle.intaglio_records.specs.Chains.{IsFilled}
 use Rattle.intaglio_records.specs.Entries.{entries, position, slot_of}
 use Rattle.intaglio_records.proofs.EntryLemmas.{entry-more}
@@ -20,11 +20,8 @@ loop-count-preserved c =
     let long = c.args.is_long in
     let rs = c.args.records.now.list in
     let n = c.loop-count.count - 1 in
-    let more =
-    entry-more long rs n c.read_hash.result c.string.result.now c.string.ensures c.read_hash.ensures in
-    let at : c.loop-count.count ≡ n + 1 = omega (arith, c.loop-count-test.true) in
-    let old = subst (λ es. IsFilled c.loop-count.lines es) (ap (entries long rs) at
-    ∙ more) c.loop-count.invariant.filled in
+    let old : IsFilled c.loop-count.lines ((c.read_hash.result, slot_of long n (position rs n)) ∷ entries long rs n) =
+    grind (arith, common_steps, entry-more long rs n c.read_hash.result c.string.result.now c.string.ensures c.read_hash.ensures) in
     record {
       filled = c.remove_newest.ensures.removed (slot_of long n (position rs n)) (entries long rs n) old;
       places = c.remove_newest.ensures.room ∙ c.loop-count.invariant.places;

@@ -14,11 +14,7 @@ loop-i-preserved c =
     record {
       lines = record {
         size = ap length items ∙ omega (arith, length-append old (x ∷ []), was.size);
-        each = λ i lt. elim (cases_lt i c.loop-i._i) [
-          | inl low ↦ rw (items, get_or_append_left old (x ∷ []) no_line i (omega (arith, low, was.size)))
-              (was.each i low)
-          | inr high ↦ grind (arith, common_steps)
-        ];
+        each = λ i lt. grind (arith, common_steps, cases_lt i c.loop-i._i, items, get_or_append_left, was.each i);
       };
       room = omega (arith, c.push_reserved.ensures.capacity, c.loop-i.invariant.room);
     }

@@ -8,9 +8,8 @@ pub returns-clause-over : goal.returns-clause-over
 returns-clause-over c _ =
     let xs = c.args.records.now.list in
     let rs = c.buffer.result.now.list in
-    let all = entries-all true xs rs c.buffer.ensures.list (are-long rs c.buffer.ensures.each) in
     record {
-      filled = subst (λ es. IsFilled c.in_ok-lines.lines es) (sym all) c.in_ok-lines.ensures.filled;
+      filled = rw (entries-all true xs rs c.buffer.ensures.list (are-long rs c.buffer.ensures.each)) c.in_ok-lines.ensures.filled;
       within = c.requires.1.within;
       places = c.in_ok-lines.ensures.places;
       tight = c.in_ok-lines.ensures.tight;

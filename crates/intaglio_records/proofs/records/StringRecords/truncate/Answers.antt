@@ -19,9 +19,7 @@ invariant_of-self c =
 
 pub returns-clause-spare_bytes : goal.returns-clause-spare_bytes
 returns-clause-spare_bytes c =
-    let rs = c.self.inside.records.list in
-    rw (← c.self.view_is, c.truncate.ensures.list)
-    (omega (arith, length-take c.args.n rs, headers-behind c.args.n rs (are-long rs c.self.invariant.each), rw c.truncate.ensures.list at c.truncate.ensures.byte_room))
+    grind (arith, common_steps, c.truncate.ensures.list, length-take, headers-behind c.args.n c.self.inside.records.list (are-long c.self.inside.records.list c.self.invariant.each))
 
 pub returns-clause-byte_room : goal.returns-clause-byte_room
 returns-clause-byte_room c = grind (arith, common_steps, invariant_of-self, room-is, are-long)
