@@ -140,7 +140,7 @@ count_of long rs hash bytes i slot = count_at hash bytes i (begin_of long rs slo
 -- the sum of f over a list that is mapped by g is the sum of f after g over the list
 count-mapped : (f g : ℕ → ℕ) (slots : List ℕ) → sum_by f (map g slots) ≡ sum_by (λ s. f (g s)) slots
 count-mapped f g [] = refl
-count-mapped f g (s ∷ slots) = grind (arith, common_steps)
+count-mapped f g (s ∷ slots) = grind (arith, common_steps, count-mapped f g slots)
 
 -- and number i is among those with the hash once if it has it
 pub count-slots : (long : Bool) (rs : List (List ℕ)) (bytes : List ℕ) (base hash i n : ℕ) → bytes ≡ concat rs

@@ -6,9 +6,6 @@ use Rattle.std.proofs.lemmas.Bool.{cases_order}
 use Rattle.intaglio_records.proofs.LineLemmas.{entry-tag}
 use Rattle.intaglio_records.proofs.line.Line.count.Goals as goal
 
-set_is_none : (tag : ℕ) → ◌≡◌ {A = ℕ} (cond (tag == 0) 1 0) 1 → tag ≡ 0
-set_is_none tag one = grind (arith, common_steps)
-
 pub returns : goal.returns
 returns c es next is =
     let m = c.equal.result in
@@ -16,4 +13,4 @@ returns c es next is =
     c.equal.ensures.bits (length es) (omega (arith, is.few)) ∙ ap (λ tag. cond (tag == 0) 1 0) (is.others (length es) (omega arith)) in
     let some : 0 < m = grind (arith, common_steps) in
     let lowest = bit_at-trailing_zeros w64 m some (omega arith) in
-    grind (arith, common_steps, w64, set_is_none, entry-tag, cases_order (trailing_zeros w64 m) (length es), lowest.2 (length es), c.equal.ensures.bits)
+    grind (arith, common_steps, w64, entry-tag, cases_order (trailing_zeros w64 m) (length es), lowest.2 (length es), c.equal.ensures.bits)

@@ -8,9 +8,7 @@ use Rattle.intaglio_records.proofs.Removing.{is-in, in_first, in_newest, in_new,
 use Rattle.intaglio_records.proofs.lines.Lines.remove_behind.Goals as goal
 
 pub index-requires : goal.index-requires
-index-requires c =
-    let filled = c.requires.there.2 in
-    omega (arith, newest-in c.args.self.now _ filled c.args.first c.args.newest (c.requires.newest _ filled))
+index-requires c = omega (arith, newest-in c.args.self.now _ c.requires.there.2 c.args.first c.args.newest (c.requires.newest _ c.requires.there.2))
 
 pub count-count-requires : goal.count-count-requires
 count-count-requires c =
@@ -19,14 +17,10 @@ count-count-requires c =
     (found.0, found.1, found.2)
 
 pub index_mut-requires : goal.index_mut-requires
-index_mut-requires c =
-    let filled = c.requires.there.2 in
-    omega (arith, newest-in c.args.self.now _ filled c.args.first c.args.newest (c.requires.newest _ filled))
+index_mut-requires c = omega (arith, newest-in c.args.self.now _ c.requires.there.2 c.args.first c.args.newest (c.requires.newest _ c.requires.there.2))
 
 pub index-requires-2 : goal.index-requires-2
-index-requires-2 c =
-    let filled = c.requires.there.2 in
-    omega (arith, newest-in c.args.self.now _ filled c.args.first c.args.newest (c.requires.newest _ filled))
+index-requires-2 c = omega (arith, newest-in c.args.self.now _ c.requires.there.2 c.args.first c.args.newest (c.requires.newest _ c.requires.there.2))
 
 pub remove-requires : goal.remove-requires
 remove-requires c =

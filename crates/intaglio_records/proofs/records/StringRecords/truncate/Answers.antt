@@ -5,17 +5,7 @@ use Rattle.intaglio_records.proofs.RecordLemmas.{are-long, headers-behind, recor
 use Rattle.intaglio_records.proofs.records.StringRecords.truncate.Goals as goal
 
 pub invariant_of-self : goal.invariant_of-self
-invariant_of-self c =
-    let rs = c.self.inside.records.list in
-    let room = rw c.truncate.ensures.list at c.truncate.ensures.byte_room in
-    let behind = headers-behind c.args.n rs (are-long rs c.self.invariant.each) in
-    rw c.truncate.ensures.list
-    (record {
-      each = records-take c.args.n rs c.self.invariant.each;
-      order = omega (arith, length-take c.args.n rs, c.truncate.ensures.most, c.self.invariant.order);
-      headers = grind (arith, common_steps);
-      small = omega (arith, room, c.self.invariant.small);
-    })
+invariant_of-self c = grind (arith, common_steps, c.truncate.ensures.list, c.truncate.ensures.byte_room, records-take, length-take, headers-behind c.args.n c.self.inside.records.list (are-long c.self.inside.records.list c.self.invariant.each))
 
 pub returns-clause-spare_bytes : goal.returns-clause-spare_bytes
 returns-clause-spare_bytes c =
