@@ -35,12 +35,6 @@ pub entries-same : (is_long : Bool) (rs : List (List ℕ)) (n : ℕ) → AreLong
 entries-same is_long rs zero long l = refl
 entries-same is_long rs (suc n) long l = grind (arith, common_steps, get_or-map, begins-same rs n long, entries-same is_long rs n long)
 
--- of the first n
-pub entries-first : (is_long : Bool) (xs : List (ℕ × List ℕ)) (rs : List (List ℕ)) (n : ℕ) →
-    map pair_of rs ≡ xs
-    → AreLong rs → n ≤ length rs → entries_of is_long xs n ≡ entries is_long rs n
-entries-first is_long xs rs n same long l = grind (arith, common_steps, entries-same)
-
 -- and of all
 pub entries-all : (is_long : Bool) (xs : List (ℕ × List ℕ)) (rs : List (List ℕ)) →
     map pair_of rs ≡ xs → AreLong rs
@@ -49,14 +43,9 @@ entries-all is_long xs rs same long =
     rw (← same, length-map rs pair_of) (entries-same is_long rs (length rs) long (omega arith))
 
 -- the bytes of all records
-sizes-same : (rs : List (List ℕ)) → AreLong rs → sum_by size_of (map pair_of rs) ≡ sum_by length rs
+pub sizes-same : (rs : List (List ℕ)) → AreLong rs → sum_by size_of (map pair_of rs) ≡ sum_by length rs
 sizes-same [] long = refl
 sizes-same (r ∷ rs) long = grind (arith, common_steps, long 0, length-drop 13 r, sum_by-cons length r rs, sum_by-cons size_of (pair_of r) (map pair_of rs), sizes-same rs (λ i l. long (suc i) (omega (arith, l))))
-
--- said of the strings
-pub sizes-all : (xs : List (ℕ × List ℕ)) (rs : List (List ℕ)) → map pair_of rs ≡ xs → AreLong rs
-    → sum_by size_of xs ≡ sum_by length rs
-sizes-all xs rs same long = rw (← same) (sizes-same rs long)
 
 -- the entries of the first n strings stay when a string is added behind them
 pub entries-append : (long : Bool) (xs : List (ℕ × List ℕ)) (x : ℕ × List ℕ) (n : ℕ) → n ≤ length xs
@@ -88,4 +77,4 @@ length-entries_of long xs zero = refl
 length-entries_of long xs (suc n) = ap suc (length-entries_of long xs n)
 
 -- what the proofs of calls of an index use
-pub ruleset entry_rules = (common_steps, entries-all, are-long, not, not-false, length-entries_of, sizes-all, sum_by, length-map, entries-push, length-append, entries-first, entries-cut, length-take)
+pub ruleset entry_rules = (common_steps, entries-all, are-long, not, not-false, length-entries_of, sizes-same, sum_by, length-map, entries-push, length-append, entries-same, entries-cut, length-take)

@@ -34,7 +34,7 @@ byte-at rs i k l within = grind (arith, common_steps, get_or-drop (position rs i
 pub string-there : (rs : List (List ℕ)) (i start n : ℕ) → i < length rs → start ≡ position rs i + 13
     → n + 13 ≡ length (get_or rs i [])
     → slice_range (concat rs) start (start + n) ≡ drop 13 (get_or rs i [])
-string-there rs i start n l s e = 
+string-there rs i start n l s e =
     let r = get_or rs i [] in
     let size : start + n - start ≡ n = omega arith in
     let front : drop start (concat rs) ≡ drop 13 r ++ concat (drop (suc i) rs) =
@@ -56,4 +56,4 @@ pub there : (rs : List (List ℕ)) (bytes : List ℕ) (at i : ℕ) → bytes ≡
 there rs bytes at i all each few l e = grind (arith, common_steps, each i l, record-within, byte-at)
 
 -- what the proofs of reading of records use
-pub ruleset reading_rules = (there, string-there, slice_range)
+pub ruleset reading_rules = (there, string-there, slice_range, record-within, byte-at)

@@ -1,7 +1,6 @@
 use Rattle.std.proofs.lemmas.Grind.{common_steps}
-use Rattle.std.proofs.Common.{◌<◌, ◌∷◌, length, arith, ap, ◌∙◌, sym, subst}
-use Rattle.intaglio_records.specs.Chains.{IsFilled}
-use Rattle.intaglio_records.specs.Entries.{entries, slot_of}
+use Rattle.std.proofs.Common.{arith}
+use Rattle.intaglio_records.specs.Entries.{entries}
 use Rattle.intaglio_records.proofs.EntryLemmas.{entry-more, length-entries}
 use Rattle.intaglio_records.proofs.entries.lines_of.Goals as goal
 

@@ -1,5 +1,5 @@
 use Rattle.std.proofs.lemmas.Grind.{common_steps}
-use Rattle.std.proofs.Common.{◌≡◌, ◌∷◌, ◌+◌, ◌-◌, arith, ap, ◌∙◌, subst}
+use Rattle.std.proofs.Common.{◌∷◌, ◌-◌, arith, ◌∙◌, subst}
 use Rattle.intaglio_records.specs.Chains.{IsFilled}
 use Rattle.intaglio_records.specs.Entries.{entries, position, slot_of}
 use Rattle.intaglio_records.proofs.EntryLemmas.{entry-more}

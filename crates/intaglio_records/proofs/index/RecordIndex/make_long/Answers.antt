@@ -1,5 +1,4 @@
-use Rattle.std.proofs.Common.{rules, true, sym, subst}
-use Rattle.intaglio_records.specs.Chains.{IsFilled}
+use Rattle.std.proofs.Common.{rules, true}
 use Rattle.intaglio_records.proofs.EntryLemmas.{entries-all}
 use Rattle.intaglio_records.proofs.RecordLemmas.{are-long}
 use Rattle.intaglio_records.proofs.index.RecordIndex.make_long.Goals as goal

@@ -1,7 +1,6 @@
 use Rattle.std.proofs.lemmas.Grind.{common_steps}
-use Rattle.std.proofs.Common.{◌≡◌, ◌<◌, ◌++◌, length, get_or, refl, sym, subst, arith, mod-lt}
+use Rattle.std.proofs.Common.{◌≡◌, ◌<◌, length, get_or, sym, subst, arith, mod-lt}
 use Rattle.intaglio_records.specs.Chains.{first_line, overflow, newest, no_line, AreBehind}
-use Rattle.intaglio_records.specs.Search.{slots_with, overflow_slots, candidates}
 use Rattle.intaglio_records.proofs.LineLemmas.{tag-some}
 use Rattle.intaglio_records.proofs.Placing.{first-is}
 use Rattle.intaglio_records.proofs.Searching.{bits-within, picked-fresh}

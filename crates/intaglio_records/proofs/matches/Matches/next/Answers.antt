@@ -1,6 +1,6 @@
-use Rattle.std.proofs.Common.{◌∷◌, length, map, refl, arith, ap, ◌∙◌, sym, subst}
+use Rattle.std.proofs.Common.{◌∷◌, length, map, refl, arith, ap, ◌∙◌, sym}
 use Rattle.std.specs.List.{concat}
-use Rattle.intaglio_records.specs.Matches.{IsLeft, begin_of, numbers_with}
+use Rattle.intaglio_records.specs.Matches.{begin_of, numbers_with}
 use Rattle.intaglio_records.proofs.MatchLemmas.{found, stepped}
 use Rattle.intaglio_records.proofs.matches.Matches.next.Goals as goal
 

@@ -1,8 +1,7 @@
 use Rattle.std.proofs.lemmas.Grind.{common_steps}
-use Rattle.std.proofs.Common.{◌<◌, ◌++◌, length, get_or, sym, subst, ap, ◌∙◌, arith}
+use Rattle.std.proofs.Common.{◌++◌, length, get_or, sym, ap, ◌∙◌, arith}
 use Rattle.std.specs.Int.{bit_at}
 use Rattle.std.proofs.lemmas.Nat.Bits.{bit_at-zero}
-use Rattle.intaglio_records.specs.Line.{IsLine}
 use Rattle.intaglio_records.specs.Chains.{newest, no_line}
 use Rattle.intaglio_records.specs.Search.{overflow_slots}
 use Rattle.intaglio_records.proofs.ChainLemmas.{newest-at}
