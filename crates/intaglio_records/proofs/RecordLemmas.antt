@@ -28,13 +28,7 @@ pub headers-behind : (n : ℕ) (rs : List (List ℕ)) → AreLong rs
     → 13 * (length rs - n) + sum_by length (take n rs) ≤ sum_by length rs
 headers-behind zero rs h = omega (arith, headers-within rs h)
 headers-behind (suc n) [] h = omega arith
-headers-behind (suc n) (r ∷ rs) h =
-    omega (
-      arith,
-      sum_by-cons length r (take n rs),
-      sum_by-cons length r rs,
-      headers-behind n rs (λ i l. h (suc i) (omega (arith, l))),
-    )
+headers-behind (suc n) (r ∷ rs) h = omega (arith, sum_by-cons length r (take n rs), sum_by-cons length r rs, headers-behind n rs (λ i l. h (suc i) (omega (arith, l))))
 
 -- the strings of records
 abbrev pub strings_in : List (List ℕ) → List (List ℕ)

@@ -30,7 +30,5 @@ loop-count-preserved c =
     }
 
 pub returns-clause-kept : goal.returns-clause-kept
-returns-clause-kept c =
-    let long = c.args.is_long in
-    let rs = c.args.records.now.list in
-    subst (λ n. IsFilled c.loop-count.lines (entries long rs n)) (omega arith) c.loop-count.invariant.filled
+returns-clause-kept c = 
+    subst (λ n. IsFilled c.loop-count.lines (entries c.args.is_long c.args.records.now.list n)) (omega arith) c.loop-count.invariant.filled

@@ -17,16 +17,13 @@ returns-clause-left c es filled =
     let F = first_line base first es in
     let some : 0 < base = omega (arith, c.if-self-eq0.false) in
     let within : first < base = rw c.class-first.ensures (mod-lt c.args.hash some) in
-    let inside : first < length lines.lines.items = omega (arith, within, filled.chains.size) in
     let x = c.index-line.result.now in
     let read = first-is lines es filled first within x c.index-line.ensures in
     let all : c.deref-2.result.now ≡ lines.lines.items = c.deref-2.ensures.value in
     let tagged : 0 < tag = rw c.tag_of-tag.ensures (tag-some c.args.hash) in
     let b = c.equal.ensures in
     let there : x ≡ get_or c.deref-2.result.now first no_line = grind (arith, common_steps) in
-    let fresh =
-    picked-fresh c.equal.result tag x.tags x.slots F read.entries
-    (λ i lt. b.bits i (omega (arith, lt, read.few))) in
+    let fresh = picked-fresh c.equal.result tag x.tags x.slots F read.entries (λ i lt. b.bits i (omega (arith, lt, read.few))) in
     record {
       base = base;
       class = first;
@@ -36,11 +33,11 @@ returns-clause-left c es filled =
       few = read.few;
       bits = λ i lt set. bits-within x F (newest base first os) c.equal.result tag read tagged b.bits
           b.above i set;
-      line = λ more. rw all inside;
+      line = λ more. rw all (omega (arith, within, filled.chains.size));
       based = some;
       size = λ more. rw all (omega (arith, filled.chains.size));
       next = c.next.ensures F (newest base first os) read;
-      lines = subst (λ ls. AreBehind base ls os) (sym all) filled.chains.behind;
+      lines = rw all filled.chains.behind;
       left_is = grind (arith, common_steps);
     }
 

@@ -11,18 +11,16 @@ begin-at-requires c =
     c.in-Some.ensures.gives).slot_is
 
 pub read_hash-requires : goal.read_hash-requires
-read_hash-requires c =
+read_hash-requires c = 
     let is = c.loop-slot.invariant.search in
-    let at = stepped is.0 is.1 c.loop-slot.self c.next.new.self c.in-Some.slot c.begin-at.result is.2 c.begin-at.ensures is.3
-    c.in-Some.ensures.gives in
-    omega (arith, at.there.within, at.there.long, ap length c.bytes-bytes.ensures)
+    let at = (stepped is.0 is.1 c.loop-slot.self c.next.new.self c.in-Some.slot c.begin-at.result is.2 c.begin-at.ensures is.3 c.in-Some.ensures.gives).there in
+    omega (arith, at.within, at.long, ap length c.bytes-bytes.ensures)
 
 pub read_number-requires : goal.read_number-requires
-read_number-requires c =
+read_number-requires c = 
     let is = c.loop-slot.invariant.search in
-    let at = stepped is.0 is.1 c.loop-slot.self c.next.new.self c.in-Some.slot c.begin-at.result is.2 c.begin-at.ensures is.3
-    c.in-Some.ensures.gives in
-    omega (arith, at.there.within, at.there.long, ap length c.bytes-bytes.ensures)
+    let at = (stepped is.0 is.1 c.loop-slot.self c.next.new.self c.in-Some.slot c.begin-at.result is.2 c.begin-at.ensures is.3 c.in-Some.ensures.gives).there in
+    omega (arith, at.within, at.long, ap length c.bytes-bytes.ensures)
 
 pub string_at-requires-clause-begins : goal.string_at-requires-clause-begins
 string_at-requires-clause-begins c =

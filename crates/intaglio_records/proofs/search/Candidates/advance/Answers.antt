@@ -21,9 +21,7 @@ returns-clause-left c left is =
     (omega (arith, c.requires.more)) in
     let b = c.equal-self.ensures in
     let slots = (get_or s.lines.now s.next no_line).slots in
-    let old =
-    picked-none s.equal (get_or s.lines.now s.line no_line).slots is.count
-    (λ i lt. ap (λ n. bit_at n i) c.requires.done ∙ bit_at-zero i) in
+    let old = picked-none s.equal (get_or s.lines.now s.line no_line).slots is.count (λ i lt. ap (λ n. bit_at n i) c.requires.done ∙ bit_at-zero i) in
     let fresh = picked-fresh c.equal-self.result s.tag (get_or s.lines.now s.next no_line).tags slots there.0
     there.2.entries (λ i lt. b.bits i (omega (arith, lt, there.2.few))) in
     record {
@@ -39,8 +37,7 @@ returns-clause-left c left is =
       size = λ some. omega (arith, is.size (omega (arith, there.5)), there.5);
       next = c.next.ensures there.0 (newest is.base is.class there.1) there.2;
       lines = there.3;
-      left_is = is.left_is ∙ ap (λ front. front ++ overflow_slots is.class s.tag is.behind) old ∙ there.4
-          ∙ ap (λ front. front ++ overflow_slots is.class s.tag there.1) (sym fresh);
+      left_is = grind (arith, is.left_is, old, there.4, fresh);
     }
 
 pub returns-clause-older : goal.returns-clause-older

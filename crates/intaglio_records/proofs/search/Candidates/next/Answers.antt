@@ -15,8 +15,7 @@ returns-then-self-eq0-clause-gives c left was =
 pub slot-requires : goal.slot-requires
 slot-requires c =
     let is = c.loop-self.invariant.search.1 in
-    let low = bit_at-trailing_zeros w64 c.loop-self.self.equal (omega (arith, c.loop-self-test.false))
-    (omega arith) in
+    let low = bit_at-trailing_zeros w64 c.loop-self.self.equal (omega (arith, c.loop-self-test.false)) (omega arith) in
     omega (arith, is.bits (trailing_zeros w64 c.loop-self.self.equal) low.0 low.1, is.few)
 
 pub returns-clause-gives : goal.returns-clause-gives
