@@ -39,8 +39,7 @@ entries-same is_long rs (suc n) long l = grind (arith, common_steps, get_or-map,
 pub entries-all : (is_long : Bool) (xs : List (ℕ × List ℕ)) (rs : List (List ℕ)) →
     map pair_of rs ≡ xs → AreLong rs
     → entries_of is_long xs (length xs) ≡ entries is_long rs (length rs)
-entries-all is_long xs rs same long =
-    rw (← same, length-map rs pair_of) (entries-same is_long rs (length rs) long (omega arith))
+entries-all is_long xs rs same long = grind (arith, common_steps, length-map, entries-same)
 
 -- the bytes of all records
 pub sizes-same : (rs : List (List ℕ)) → AreLong rs → sum_by size_of (map pair_of rs) ≡ sum_by length rs

@@ -36,11 +36,7 @@ line-remove line e es next count few is at =
     record {
       entries = kept-by-tag line.tags line.slots es count 0 (omega (arith, at)) is.entries.2;
       few = omega (arith, few, at);
-      others = λ i le. elim (cases_eq i count) [
-        | inl same ↦ rw same (get_or-set_same line.tags count 0 0 (omega (arith, few, is.tags)))
-        | inr other ↦ get_or-set_other line.tags count i 0 0 other
-            ∙ is.others i (omega (arith, le, at, other))
-      ];
+      others = λ i le. grind (arith, common_steps, cases_eq i count, get_or-set_same, get_or-set_other, is.others i);
       next_is = is.next_is;
       tags = length-set line.tags count 0 ∙ is.tags;
       slots = is.slots;

@@ -149,13 +149,7 @@ grown base e es some =
 pub counted : (base : ℕ) (es : List Entry) → 0 < base →
     length es ≡ total (λ c. top base c es) base + 11 * length (overflow base es)
 counted base [] some = sym (total-none base)
-counted base (e ∷ es) some = omega (
-  arith,
-  total-change (λ k. top base k (e ∷ es)) (λ k. top base k es) (e.0 % base) base (λ k. top-other base k e es)
-      (mod-lt e.0 some),
-  counted base es some,
-  grown base e es some,
-)
+counted base (e ∷ es) some = omega (arith, total-change (λ k. top base k (e ∷ es)) (λ k. top base k es) (e.0 % base) base (λ k. top-other base k e es) (mod-lt e.0 some), counted base es some, grown base e es some)
 
 -- if a new overflow line is needed, there are eleven entries for each, and for this one too
 pub needed : (base c : ℕ) (es : List Entry) → 0 < base → c < base → top base c es ≡ 11 →

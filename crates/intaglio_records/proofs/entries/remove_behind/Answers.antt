@@ -30,5 +30,5 @@ loop-count-preserved c =
     }
 
 pub returns-clause-kept : goal.returns-clause-kept
-returns-clause-kept c = 
+returns-clause-kept c =
     subst (λ n. IsFilled c.loop-count.lines (entries c.args.is_long c.args.records.now.list n)) (omega arith) c.loop-count.invariant.filled

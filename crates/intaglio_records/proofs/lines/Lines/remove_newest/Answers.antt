@@ -16,8 +16,7 @@ returns-clause-removed c slot es filled =
     let at = c.class-first.ensures in
     let within : k < lines.base = rw at (mod-lt c.args.hash some) in
     let inside : k < length items = omega (arith, within, filled.chains.size) in
-    let number =
-    c.next-newest.ensures _ _ (first-is lines (e ∷ es) filled k within c.index.result.now c.index.ensures) in
+    let number = c.next-newest.ensures _ _ (first-is lines (e ∷ es) filled k within c.index.result.now c.index.ensures) in
     elim (is-in lines.base k e es some at) [
       | in_first lt none ↦
           (let cut : (xs : List Entry) (next : ℕ) → IsLine (get_or items k no_line) (e ∷ xs) next →

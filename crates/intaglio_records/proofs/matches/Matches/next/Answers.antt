@@ -11,13 +11,13 @@ begin-at-requires c =
     c.in-Some.ensures.gives).slot_is
 
 pub read_hash-requires : goal.read_hash-requires
-read_hash-requires c = 
+read_hash-requires c =
     let is = c.loop-slot.invariant.search in
     let at = (stepped is.0 is.1 c.loop-slot.self c.next.new.self c.in-Some.slot c.begin-at.result is.2 c.begin-at.ensures is.3 c.in-Some.ensures.gives).there in
     omega (arith, at.within, at.long, ap length c.bytes-bytes.ensures)
 
 pub read_number-requires : goal.read_number-requires
-read_number-requires c = 
+read_number-requires c =
     let is = c.loop-slot.invariant.search in
     let at = (stepped is.0 is.1 c.loop-slot.self c.next.new.self c.in-Some.slot c.begin-at.result is.2 c.begin-at.ensures is.3 c.in-Some.ensures.gives).there in
     omega (arith, at.within, at.long, ap length c.bytes-bytes.ensures)
@@ -48,15 +48,12 @@ pub loop-slot-preserved : goal.loop-slot-preserved
 loop-slot-preserved c =
     let m = c.loop-slot.self in
     let is = c.loop-slot.invariant.search in
-    let at = stepped is.0 is.1 m c.next.new.self c.in-Some.slot c.begin-at.result is.2 c.begin-at.ensures is.3
-    c.in-Some.ensures.gives in
+    let at = stepped is.0 is.1 m c.next.new.self c.in-Some.slot c.begin-at.result is.2 c.begin-at.ensures is.3 c.in-Some.ensures.gives in
     record {
       search = (is.0, is.1, at.rest, at.is);
       left = λ xs hash left was.
           (let now = c.loop-slot.invariant.left xs hash left was in
-          let next =
-          stepped xs hash m c.next.new.self c.in-Some.slot c.begin-at.result left c.begin-at.ensures now
-          c.in-Some.ensures.gives in
+          let next = stepped xs hash m c.next.new.self c.in-Some.slot c.begin-at.result left c.begin-at.ensures now c.in-Some.ensures.gives in
           rw (next.other (λ same. c.if-read_hash-self.false
           (rw c.bytes-bytes.ensures at c.read_hash.ensures ∙ same ∙ sym now.hash_is))) next.is);
       fewer = omega (arith, c.in-Some.ensures.fewer, c.loop-slot.invariant.fewer);
@@ -68,7 +65,7 @@ returns-clause-gives c xs hash left was =
     let none = c.in_default.ensures.gives is.slots is.slots_left in
     let rs = c.loop-slot.self.records.now.list in
     let begin = begin_of c.loop-slot.self.is_long rs in (
-      is.left_is ∙ ap (λ ss. numbers_with hash (concat rs) (map begin ss)) none.0,
+      grind (arith, is.left_is, none.0),
       record {
         slots = is.slots;
         slots_left = none.1;
