@@ -1,7 +1,7 @@
 -- How chains of lines change.
 use Rattle.std.proofs.lemmas.Grind.{common_steps}
-use Rattle.std.proofs.Common.{◌≡◌, ◌≢◌, ℕ, ◌+◌, ◌<◌, ◌≤◌, ◌==◌, List, [], ◌∷◌, ◌++◌, length, get_or, set, refl, sym, ◌∙◌, arith, inl, inr, length-append}
-use Rattle.std.proofs.lemmas.Bool.{cases_eq, cond-true, eq-eqb}
+use Rattle.std.proofs.Common.{◌≡◌, ◌≢◌, ℕ, ◌+◌, ◌<◌, ◌≤◌, List, [], ◌∷◌, ◌++◌, length, get_or, set, refl, ◌∙◌, arith, inl, inr, length-append}
+use Rattle.std.proofs.lemmas.Bool.{cases_eq}
 use Rattle.std.proofs.lemmas.Bool.Decides.{eqb_tells}
 use Rattle.std.proofs.lemmas.List.{get_or-set_same, get_or-set_other, length-set, get_or_append_left, get_or_default}
 use Rattle.std.proofs.Math.Seq.{get_or-append_seam}
@@ -87,8 +87,6 @@ pub chains-new : (base c : ℕ) (e : Entry) (lines : List Line) (f : ℕ → Lis
 chains-new base c e lines f os x y within are first leads =
     let more = lines ++ x ∷ [] in
     let long : length more ≡ length lines + 1 = length-append lines (x ∷ []) in
-    let here : newest base c ((c, e ∷ []) ∷ os) ≡ length lines =
-    cond-true (c == c) (base + length os) (newest base c os) (eq-eqb c c refl) ∙ sym are.size in
     let apart : base + length os ≢ c = λ same. omega (arith, within, same) in
     record {
       size = length-set more c y ∙ omega (arith, long, are.size);

@@ -169,7 +169,6 @@ pub all-found : (long : Bool) (rs : List (List ℕ)) (base hash : ℕ) (slots : 
     → AreAll (map pair_of rs) hash (numbers_with hash (concat rs) (map (begin_of long rs) slots))
 all-found long rs base hash slots each few perm i =
     let n = length rs in
-    let xs = map pair_of rs in
     let bytes = concat rs in
     let moved =
     sum_by-IsPermutation (count_of long rs hash bytes i) (search.slots_of base hash (entries long rs n))

@@ -5,10 +5,9 @@ use Rattle.intaglio_records.proofs.index.RecordIndex.make_long.Goals as goal
 
 pub returns-clause-over : goal.returns-clause-over
 returns-clause-over c _ =
-    let xs = c.args.records.now.list in
     let rs = c.buffer.result.now.list in
     record {
-      filled = rw (entries-all true xs rs c.buffer.ensures.list (are-long rs c.buffer.ensures.each)) c.in_ok-lines.ensures.filled;
+      filled = rw (entries-all true _ rs c.buffer.ensures.list (are-long rs c.buffer.ensures.each)) c.in_ok-lines.ensures.filled;
       within = c.requires.1.within;
       places = c.in_ok-lines.ensures.places;
       tight = c.in_ok-lines.ensures.tight;

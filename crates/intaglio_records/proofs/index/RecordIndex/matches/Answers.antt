@@ -16,12 +16,11 @@ pub returns : goal.returns
 returns c =
     let rs = c.buffer.result.now.list in
     let each = c.buffer.ensures.each in
-    let xs = c.args.records.now.list in
     let long = c.args.self.now.is_long in
     let base = c.args.self.now.lines.base in
     let hash = c.args.hash in
     let es = entries long rs (length rs) in
-    let all = entries-all long xs rs c.buffer.ensures.list (are-long rs each) in
+    let all = entries-all long _ rs c.buffer.ensures.list (are-long rs each) in
     let filled : IsFilled c.args.self.now.lines es = rw (← all) c.requires.filled in
     let slots = candidates base hash es in
     let perm = c.find-candidates.ensures.found es filled in

@@ -1,6 +1,6 @@
 use Rattle.std.proofs.lemmas.Grind.{common_steps}
-use Rattle.std.proofs.Common.{◌≡◌, ◌<◌, length, get_or, sym, subst, arith, mod-lt}
-use Rattle.intaglio_records.specs.Chains.{first_line, overflow, newest, no_line, AreBehind}
+use Rattle.std.proofs.Common.{◌≡◌, ◌<◌, length, arith, mod-lt}
+use Rattle.intaglio_records.specs.Chains.{first_line, overflow, newest}
 use Rattle.intaglio_records.proofs.LineLemmas.{tag-some}
 use Rattle.intaglio_records.proofs.Placing.{first-is}
 use Rattle.intaglio_records.proofs.Searching.{bits-within, picked-fresh}
@@ -22,7 +22,6 @@ returns-clause-left c es filled =
     let all : c.deref-2.result.now ≡ lines.lines.items = c.deref-2.ensures.value in
     let tagged : 0 < tag = rw c.tag_of-tag.ensures (tag-some c.args.hash) in
     let b = c.equal.ensures in
-    let there : x ≡ get_or c.deref-2.result.now first no_line = grind (arith, common_steps) in
     let fresh = picked-fresh c.equal.result tag x.tags x.slots F read.entries (λ i lt. b.bits i (omega (arith, lt, read.few))) in
     record {
       base = base;

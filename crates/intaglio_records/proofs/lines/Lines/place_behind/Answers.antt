@@ -70,7 +70,6 @@ returns-then-count-lt-SLOTS-clause-placed c es room filled =
 pub place_in_new-requires-clause-others_full : goal.place_in_new-requires-clause-others_full
 place_in_new-requires-clause-others_full c es filled =
     let lines = c.args.self.now in
-    let some : 0 < lines.base = omega (arith, c.requires.free.2) in
     let is = place_in_new-requires-clause-newest c es filled in
     elim c.if-newest-ne0.branch [
       | then-newest-ne0+else-count-lt-SLOTS w ↦

@@ -1,6 +1,4 @@
-use Rattle.std.proofs.Common.{◌∷◌, length, map, refl, arith, ap, ◌∙◌, sym}
-use Rattle.std.specs.List.{concat}
-use Rattle.intaglio_records.specs.Matches.{begin_of, numbers_with}
+use Rattle.std.proofs.Common.{◌∷◌, length, refl, arith, ap, ◌∙◌, sym}
 use Rattle.intaglio_records.proofs.MatchLemmas.{found, stepped}
 use Rattle.intaglio_records.proofs.matches.Matches.next.Goals as goal
 
@@ -62,9 +60,7 @@ loop-slot-preserved c =
 pub returns-clause-gives : goal.returns-clause-gives
 returns-clause-gives c xs hash left was =
     let is = c.loop-slot.invariant.left xs hash left was in
-    let none = c.in_default.ensures.gives is.slots is.slots_left in
-    let rs = c.loop-slot.self.records.now.list in
-    let begin = begin_of c.loop-slot.self.is_long rs in (
+    let none = c.in_default.ensures.gives is.slots is.slots_left in (
       grind (arith, is.left_is, none.0),
       record {
         slots = is.slots;

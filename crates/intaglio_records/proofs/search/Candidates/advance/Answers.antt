@@ -1,9 +1,8 @@
 use Rattle.std.proofs.lemmas.Grind.{common_steps}
-use Rattle.std.proofs.Common.{◌++◌, length, get_or, sym, ap, ◌∙◌, arith}
+use Rattle.std.proofs.Common.{length, get_or, ap, ◌∙◌, arith}
 use Rattle.std.specs.Int.{bit_at}
 use Rattle.std.proofs.lemmas.Nat.Bits.{bit_at-zero}
 use Rattle.intaglio_records.specs.Chains.{newest, no_line}
-use Rattle.intaglio_records.specs.Search.{overflow_slots}
 use Rattle.intaglio_records.proofs.ChainLemmas.{newest-at}
 use Rattle.intaglio_records.proofs.Searching.{next-line, next-inside, picked-none, picked-fresh}
 use Rattle.intaglio_records.proofs.search.Candidates.advance.Goals as goal
@@ -20,9 +19,8 @@ returns-clause-left c left is =
     let there = next-line is.base is.class s.tag s.next s.lines.now is.behind is.lines is.next
     (omega (arith, c.requires.more)) in
     let b = c.equal-self.ensures in
-    let slots = (get_or s.lines.now s.next no_line).slots in
     let old = picked-none s.equal (get_or s.lines.now s.line no_line).slots is.count (λ i lt. ap (λ n. bit_at n i) c.requires.done ∙ bit_at-zero i) in
-    let fresh = picked-fresh c.equal-self.result s.tag (get_or s.lines.now s.next no_line).tags slots there.0
+    let fresh = picked-fresh c.equal-self.result s.tag (get_or s.lines.now s.next no_line).tags _ there.0
     there.2.entries (λ i lt. b.bits i (omega (arith, lt, there.2.few))) in
     record {
       base = is.base;
