@@ -52,103 +52,60 @@ module _ {C : Type 0} (key : C → Key) (spells : C → List ℕ) where
   leaves held limit (TakeBack n) = cond (ltb (length held) n) held (take n held)
   leaves held limit _ = held
 
-  -- a step whose reply says no less and no more than that
-  record IsPlain (old : State C) (call : Call C) (r : Reply) (new : State C) : Type 0 where
-    reply : seen r ≡ says old.contents old.limit call
-    contents : new.contents ≡ leaves old.contents old.limit call
-    limit : new.limit ≡ old.limit
+  -- a reply says this, and a call leaves these contents under the same limit
+  abbrev IsPlain : Seen → State C → State C → Seen → List C → Type 0
+  IsPlain reply old new said left = (reply ≡ said) × (new.contents ≡ left) × (new.limit ≡ old.limit)
 
-  same-contents : (old new : State C) → new ≡ old → new.contents ≡ old.contents
-  same-contents old new e = ap (λ (s : State C). s.contents) e
-
-  same-limit : (old new : State C) → new ≡ old → new.limit ≡ old.limit
-  same-limit old new e = ap (λ (s : State C). s.limit) e
+  plain : (old new : State C) {x y : Seen} → x ≡ y → new ≡ old → IsPlain x old new y old.contents
+  plain old new e same = (e, ap (λ (s : State C). s.contents) same, ap (λ (s : State C). s.limit) same)
 
   taken-plain : (o : Option ℕ) (old new : State C) (c : C) (i : ℕ) →
       MatchOption o (IsAppended old c i new) (λ j. (◌≡◌ {A = Result ℕ InternError} (Ok i) (Ok j))
       × (new ≡ old))
-      → (symbol (Some i) ≡ interning_says o (length old.contents) old.limit)
-      × (new.contents ≡ interning_leaves o old.contents old.limit c) × (new.limit ≡ old.limit)
+      → IsPlain (symbol (Some i)) old new (interning_says o (length old.contents) old.limit)
+      (interning_leaves o old.contents old.limit c)
   taken-plain None old new c i h =
-      let below = lt-ltb (length old.contents) old.limit h.below_limit in
-      (rw (below, h.position) refl, rw (below, h.contents) refl, h.limit)
-  taken-plain (Some j) old new c i h =
-      (let e : i ≡ j = (let q = h.0 in cc) in rw e refl, same-contents old new h.1, same-limit old new h.1)
+      rw (lt-ltb (length old.contents) old.limit h.below_limit)
+      (ap (λ n. symbol (Some n)) h.position, h.contents, h.limit)
+  taken-plain (Some j) old new c i h = plain old new (cc) h.1
 
   overflow-plain : (o : Option ℕ) (old new : State C) (c : C) (B : ℕ → Type 0) → ((j : ℕ) → B j → ⊥) →
       MatchOption o ((length old.contents ≡ old.limit) × (new ≡ old)) (λ j. B j × (new ≡ old))
-      → (overflow ≡ interning_says o (length old.contents) old.limit)
-      × (new.contents ≡ interning_leaves o old.contents old.limit c) × (new.limit ≡ old.limit)
+      → IsPlain overflow old new (interning_says o (length old.contents) old.limit)
+      (interning_leaves o old.contents old.limit c)
   overflow-plain None old new c B never h =
-      let full = le-ltb (length old.contents) old.limit (omega (arith, h.0)) in
-      (rw full refl, rw full (same-contents old new h.1), same-limit old new h.1)
+      rw (le-ltb (length old.contents) old.limit (omega (arith, h.0))) (plain old new refl h.1)
   overflow-plain (Some j) old new c B never h = absurd (never j h.0)
 
-  plain : (old : State C) (call : Call C) (r : Reply) (new : State C) →
-      seen r ≡ says old.contents old.limit call → new ≡ old →
-      leaves old.contents old.limit call ≡ old.contents → IsPlain old call r new
-  plain old call r new e same kept =
-      record { reply = e; contents = same-contents old new same ∙ sym kept; limit = same-limit old new same }
-
   step-plain : (old new : State C) (call : Call C) (r : Reply) →
-      Step key key spells IsMoved false old call r new → r ≢ reply.NoMemory → IsPlain old call r new
-  step-plain old new (Intern c) (reply.Symbol (Some i)) step n =
-      let h = taken-plain (first key old.contents (key c)) old new c i step in
-      record { reply = h.0; contents = h.1; limit = h.2 }
-  step-plain old new (Intern c) reply.Overflow step n =
-      let h = overflow-plain (first key old.contents (key c)) old new c _ (λ j e. cc)
-      (step (record { private = tt })) in
-      record { reply = h.0; contents = h.1; limit = h.2 }
-  step-plain old new (Intern c) reply.NoMemory step n = absurd (n refl)
-  step-plain old new (Check c) (reply.Symbol r) step _ =
-      plain old (Check c) (reply.Symbol r) new (ap symbol step.0) step.1 refl
-  step-plain old new (GetInterned c) (reply.Pair r) step n =
-      plain old (GetInterned c) (reply.Pair r) new (ap pair step.0) step.1 refl
-  step-plain old new (GetInterned c) reply.NoMemory step n = absurd (n refl)
-  step-plain old new (GetInterned c) _ step n = absurd step.0
-  step-plain old new (IsInterned c) (reply.Bool r) step _ =
-      plain old (IsInterned c) (reply.Bool r) new (ap bool step.0) step.1 refl
-  step-plain old new (Contains s) (reply.Bool r) step _ =
-      plain old (Contains s) (reply.Bool r) new (ap bool step.0) step.1 refl
-  step-plain old new (Get s) (reply.Spelling r) step n =
-      plain old (Get s) (reply.Spelling r) new (ap spelling step.0) step.1 refl
-  step-plain old new (Get s) reply.NoMemory step n = absurd (n refl)
-  step-plain old new (Get s) _ step n = absurd step.0
-  step-plain old new Len (reply.Count r) step _ =
-      plain old Len (reply.Count r) new (ap count step.0) step.1 refl
-  step-plain old new IsEmpty (reply.Bool r) step _ =
-      plain old IsEmpty (reply.Bool r) new (ap bool step.0) step.1 refl
-  step-plain old new Clear reply.Done step _ =
-      record { reply = refl; contents = step.contents; limit = step.limit }
-  step-plain old new (Reserve n) reply.Done step m =
-      record {
-        reply = rw (le-ltb old.limit (length old.contents + n) step.within_limit) refl;
-        contents =
-            step.contents;
-        limit = step.limit;
-      }
-  step-plain old new (Reserve n) reply.CapacityOverflow step m =
-      plain old (Reserve n) reply.CapacityOverflow new
-      (rw (lt-ltb old.limit (length old.contents + n) step.0) refl) step.1 refl
-  step-plain old new (Reserve n) reply.NoMemory step m = absurd (m refl)
-  step-plain old new (ShrinkTo n) reply.Done step m =
-      record { reply = refl; contents = step.contents; limit = step.limit }
-  step-plain old new (ShrinkTo n) reply.NoMemory step m = absurd (m refl)
-  step-plain old new ShrinkToFit reply.Done step m =
-      record { reply = refl; contents = step.contents; limit = step.limit }
-  step-plain old new ShrinkToFit reply.NoMemory step m = absurd (m refl)
+      Step key key spells IsMoved false old call r new → r ≢ reply.NoMemory →
+      IsPlain (seen r) old new (says old.contents old.limit call) (leaves old.contents old.limit call)
+  step-plain old new _ reply.NoMemory step n = absurd (n refl)
+  step-plain old new (Intern c) (reply.Symbol (Some i)) step _ =
+      taken-plain (first key old.contents (key c)) old new c i step
+  step-plain old new (Intern c) reply.Overflow step _ =
+      overflow-plain (first key old.contents (key c)) old new c _ (λ j e. cc)
+      (step (record { private = tt }))
+  step-plain old new (Check c) (reply.Symbol r) step _ = plain old new (ap symbol step.0) step.1
+  step-plain old new (GetInterned c) (reply.Pair r) step _ = plain old new (ap pair step.0) step.1
+  step-plain old new (GetInterned c) _ step _ = absurd step.0
+  step-plain old new (IsInterned c) (reply.Bool r) step _ = plain old new (ap bool step.0) step.1
+  step-plain old new (Contains s) (reply.Bool r) step _ = plain old new (ap bool step.0) step.1
+  step-plain old new (Get s) (reply.Spelling r) step _ = plain old new (ap spelling step.0) step.1
+  step-plain old new (Get s) _ step _ = absurd step.0
+  step-plain old new Len (reply.Count r) step _ = plain old new (ap count step.0) step.1
+  step-plain old new IsEmpty (reply.Bool r) step _ = plain old new (ap bool step.0) step.1
+  step-plain old new Clear reply.Done step _ = (refl, step.contents, step.limit)
+  step-plain old new (Reserve n) reply.Done step _ =
+      rw (le-ltb old.limit (length old.contents + n) step.within_limit) (refl, step.contents, step.limit)
+  step-plain old new (Reserve n) reply.CapacityOverflow step _ =
+      rw (lt-ltb old.limit (length old.contents + n) step.0) (plain old new refl step.1)
+  step-plain old new (ShrinkTo n) reply.Done step _ = (refl, step.contents, step.limit)
+  step-plain old new ShrinkToFit reply.Done step _ = (refl, step.contents, step.limit)
   step-plain old new (TakeBack n) reply.Done step _ =
-      let some = le-ltb (length old.contents) n step.within in
-      record { reply = rw some refl; contents = rw some step.contents; limit = step.limit }
-  step-plain old new (TakeBack n) reply.Stale step _ =
-      let h = step (record { private = tt }) in
-      let none = lt-ltb (length old.contents) n h.0 in
-      record {
-        reply = rw none refl;
-        contents = rw none (same-contents old new h.1);
-        limit =
-            same-limit old new h.1;
-      }
+      rw (le-ltb (length old.contents) n step.within) (refl, step.contents, step.limit)
+  step-plain old new (TakeBack n) reply.Stale step _ = let h = step (record { private = tt }) in
+      rw (lt-ltb (length old.contents) n h.0) (plain old new refl h.1)
   step-plain old new _ _ step _ = absurd step
 
   -- what calls in order say, and the contents that they leave
@@ -164,12 +121,12 @@ module _ {C : Type 0} (key : C → Key) (spells : C → List ℕ) where
       (cost : List Event) → Runs key spells hash old calls replies cost new → HasMemory replies
       → (map seen replies ≡ says_each old.contents old.limit calls)
       × (new.contents ≡ leaves_all old.contents old.limit calls)
-  runs-plain hash old new [] [] cost run memory = (refl, same-contents old new run.1)
+  runs-plain hash old new [] [] cost run memory = (refl, ap (λ (s : State C). s.contents) run.1)
   runs-plain hash old new (call ∷ calls) (r ∷ replies) cost run memory =
       let one = step-plain old run.0 call r run.4.0 (memory 0 r (omega arith)) in
       let rest =
       runs-plain hash run.0 new calls replies run.2 run.5 (λ k d lt. memory (suc k) d (omega arith)) in
-      (rw (one.reply, rest.0, one.contents, one.limit) refl, rw (rest.1, one.contents, one.limit) refl)
+      (rw (one.0, rest.0, one.1, one.2) refl, rw (rest.1, one.1, one.2) refl)
   runs-plain hash old new _ _ cost run memory = absurd run
 
   -- two runs of the same calls say the same and leave the same contents

@@ -63,38 +63,15 @@ module _ {C X : Type 0} (OneStep : State C → X → Reply → List Event → St
       places old new xs replies cost 0 keep (record { below = λ lt. omega arith; twice = omega arith })
       run in omega (arith, all)
 
+kept : {C : Type 0} {old next : State C} {p g : ℕ} → IsKept old next → p ≡ 0 → Holds old g →
+    Goes old next p g
+kept {g = g} is none h = let size = ap length is.contents in record {
+  later = g;
+  holds = record { below = λ lt. omega (arith, h.below); twice = omega arith };
+  spent = omega arith;
+}
+
 module _ {C : Type 0} (key : C → Key) (hash : Key → ℕ) where
-  kept : (old next : State C) (p g : ℕ) → IsKept old next → p ≡ 0 → Holds old g → Goes old next p g
-  kept old next p g is none h =
-      let size : length next.contents ≡ length old.contents = ap length is.contents in
-      record {
-        later = g;
-        holds = record {
-          below = λ lt. omega (
-            arith,
-            h.below (omega (arith, lt, is.buckets, is.limit)),
-            is.buckets,
-          );
-          twice = omega (arith, h.twice, size);
-        };
-        spent = omega (arith, none, size);
-      }
-
-  grown : (old next : State C) (adds : List C → List C → Type 0) (i p g : ℕ) →
-      length next.contents ≡ length old.contents + 1 → IsAdded adds old i next → next.buckets ≢ old.buckets →
-      p ≡ length old.contents + 1 → Holds old g → Goes old next p g
-  grown old next adds i p g size taken more placements h =
-      let full : length old.contents ≡ old.buckets = (taken.growth more).0 in
-      let double : next.buckets ≡ min old.limit (max 4 (2 * old.buckets)) = (taken.growth more).1 in
-      let few : g ≤ old.buckets = h.below (omega (arith, taken.below_limit)) in
-      let same : next.limit ≡ old.limit = taken.limit in
-      record {
-        later = g + length old.contents;
-        holds =
-            record { below = λ lt. omega arith; twice = omega arith };
-        spent = omega arith;
-      }
-
   pub adding-places : (old next : State C) (k : Key) (now : List Event)
       (cost : IsAddingCost key hash old k next now) → placed_count now ≡ placed_count cost.growth + 1
   adding-places old next k now cost =
@@ -111,20 +88,16 @@ module _ {C : Type 0} (key : C → Key) (hash : Key → ℕ) where
       let parts = adding-places old next k now cost in
       elim (cases_eq next.buckets old.buckets) [
         | inl same ↦
-            let nothing : placed_count cost.growth ≡ 0 = rw (cost.grows.only_growth same) refl in
-            let limit : next.limit ≡ old.limit = taken.limit in
-            record {
+            let nothing : placed_count cost.growth ≡ 0 = rw (cost.grows.only_growth same) refl in record {
               later = g;
-              holds = record {
-                below = λ lt. let less : old.buckets < old.limit = omega arith in
-                    let at_most = h.below less in omega arith;
-                twice = let t = h.twice in omega arith;
-              };
+              holds = record { below = λ lt. omega (arith, h.below); twice = omega arith };
               spent = omega arith;
             }
-        | inr differ ↦
-            let again : placed_count cost.growth ≡ length old.contents = cost.grows.placements differ in
-            grown old next adds i (placed_count now) g size taken differ (omega arith) h
+        | inr differ ↦ let again = cost.grows.placements differ in let full = taken.growth differ in record {
+          later = g + length old.contents;
+          holds = record { below = λ lt. omega (arith, h.below); twice = omega (arith, h.below) };
+          spent = omega arith;
+        }
       ]
 
   pub added-hashes : (o : Option ℕ) (old next : State C) (k : Key) (now : List Event)
@@ -152,7 +125,7 @@ module _ {C Q : Type 0} (key : C → Key) (value_key : Q → Key) (spelling : C 
       added key hash old next (adds q) i g (value_key q) now
       (added-length key (adds q) copies (value_key q) (one q) old next i taken) taken cost h
   answered (Some j) old next q i g now found cost h =
-      kept key hash old next (placed_count now) g (same-kept old next found.1) cost.0.placements h
+      kept (same-kept old next found.1) cost.0.placements h
 
   -- an interning or a look-up
   call-goes : (old next : State C) (call : Call Q) (r : Reply) (now : List Event) (g : ℕ) →
@@ -161,17 +134,14 @@ module _ {C Q : Type 0} (key : C → Key) (value_key : Q → Key) (spelling : C 
   call-goes old next (Intern q) (reply.Symbol (Some i)) now g keep made cost h =
       answered (first key old.contents (value_key q)) old next q i g now made cost h
   call-goes old next (Intern q) reply.Overflow now g keep made cost h =
-      kept key hash old next (placed_count now) g
-      (fails-kept key (adds q) copies (value_key q) (first key old.contents (value_key q)) old next
+      kept (fails-kept key (adds q) copies (value_key q) (first key old.contents (value_key q)) old next
       (error.Overflow (record { private = tt })) (made (record { private = tt }))) cost.0.placements h
   call-goes old next (Intern q) reply.NoMemory now g keep made cost h =
-      kept key hash old next (placed_count now) g
-      (fails-kept key (adds q) copies (value_key q) (first key old.contents (value_key q)) old next
+      kept (fails-kept key (adds q) copies (value_key q) (first key old.contents (value_key q)) old next
       (error.Memory alloc_error) made) cost.0.placements h
   call-goes old next (Intern q) _ now g keep made cost h = absurd made
   call-goes old next call r now g keep made cost h =
-      kept key hash old next (placed_count now) g
-      (same-kept old next (look_up-same key value_key spelling adds copies old next call r keep made))
+      kept (same-kept old next (look_up-same key value_key spelling adds copies old next call r keep made))
       (look_up-places key value_key spelling adds copies hash old next call r now keep cost) h
 
   -- placements and contents before are at most three times the contents after
