@@ -1,5 +1,6 @@
 -- What a run hashes, and what interns alone place.
-use Rattle.std.proofs.Common.{◌≡◌, ◌≢◌, ℕ, suc, ◌+◌, ◌*◌, ◌<◌, ◌≤◌, min, max, Bool, true, false, List, [], ◌∷◌, ◌++◌, length, map, All, Option, Some, None, Ok, Err, Result, alloc_error, MatchOption, inl, inr, refl, ap, arith}
+use Rattle.std.proofs.lemmas.Grind.{common_steps}
+use Rattle.std.proofs.Common.{◌≡◌, ◌≢◌, ℕ, suc, ◌+◌, ◌*◌, ◌<◌, ◌≤◌, Bool, true, false, List, [], ◌∷◌, ◌++◌, length, map, All, Option, Some, None, Ok, Err, Result, alloc_error, MatchOption, inl, inr, refl, ap, arith}
 use Rattle.std.proofs.lemmas.Bool.{cases_eq}
 use Rattle.std.proofs.lemmas.List.Elements.{All-cons}
 use Rattle.intaglio_content.specs.Key.{Key}
@@ -7,17 +8,17 @@ use Rattle.intaglio_content.specs.Store.{IsAddedOne}
 use Rattle.intaglio_content.specs.Work.{Event, placed}
 use Rattle.intaglio_interner.specs.State.{State, first}
 use Rattle.intaglio_interner.specs.Change.{IsAdded, IsRefused}
-use Rattle.intaglio_interner.specs.Cost.{InOrder, hashed_keys, placed_count, SearchCost, IsAddingCost}
+use Rattle.intaglio_interner.specs.Cost.{hashed_keys, placed_count, SearchCost, IsAddingCost}
 use Rattle.intaglio_interner.specs.Step.{Step, StepCost}
-use Rattle.intaglio_interner.specs.Run.{RunsValues, IsCall, KeepsContents, HonoursRoom, searched_keys}
-use Rattle.intaglio_interner.proofs.InOrder.{hashed_keys-append, InOrder-hash}
+use Rattle.intaglio_interner.specs.Run.{RunsValues, KeepsContents, HonoursRoom, searched_keys}
+use Rattle.intaglio_interner.proofs.InOrder.{hashed_keys-append}
 use Rattle.intaglio_interner.proofs.Room.{IsKept, same-kept, fails-kept, added-length}
 use Rattle.intaglio_interner.proofs.LookUps.{look_up-same, look_up-places}
 use Rattle.intaglio_interner.proofs.Bytes.{intern-spare}
 use Rattle.intaglio_symbol.specs.declared.error.InternError.TheVariants as error
 use Rattle.intaglio_symbol.specs.declared.error.InternError.{InternError}
 use Rattle.intaglio_interner.specs.declared.runs.Call.{Call}
-use Rattle.intaglio_interner.specs.declared.runs.Call.TheVariants.{Intern, Check, GetInterned, IsInterned, Reserve, ShrinkTo, ShrinkToFit}
+use Rattle.intaglio_interner.specs.declared.runs.Call.TheVariants.{Intern}
 use Rattle.intaglio_interner.specs.declared.runs.Reply.{Reply}
 use Rattle.intaglio_interner.specs.declared.runs.Reply.TheVariants as reply
 
@@ -39,30 +40,6 @@ pub record Goes {C : Type 0} (old next : State C) (p g : ℕ) : Type 0 where
   pub holds : Holds next later
   pub spent : g + p + length old.contents ≤ later + length next.contents
 
--- where each step makes few placements, all make few
-module _ {C X : Type 0} (OneStep : State C → X → Reply → List Event → State C → Type 0) (P : X → Type 0)
-    (goes : (old next : State C) (x : X) (r : Reply) (now : List Event) (g : ℕ) → P x →
-    OneStep old x r now next → Holds old g → Goes old next (placed_count now) g) where
-  places : (old new : State C) (xs : List X) (replies : List Reply) (cost : List Event) (g : ℕ) → All P xs →
-      Holds old g → InOrder OneStep old xs replies cost new
-      → g + placed_count cost + length old.contents ≤ 3 * length new.contents
-  places old new [] [] cost g all h run = rw (run.0, run.1) (omega (arith, h.twice))
-  places old new (x ∷ xs) (r ∷ replies) cost g all h run =
-      let one = goes old run.0 x r run.1 g (all 0 x (omega arith)) run.4 h in
-      let rest = places run.0 new xs replies run.2 one.later (λ k d lt. all (suc k) d (omega arith))
-      one.holds run.5 in
-      rw (run.3, placed_count-append run.1 run.2) (omega (arith, one.spent, rest))
-  places old new _ _ cost g all h run = absurd run
-
-  -- placements and contents before are at most three times the contents after
-  pub InOrder-place : (old new : State C) (xs : List X) (replies : List Reply) (cost : List Event) →
-      All P xs → InOrder OneStep old xs replies cost new
-      → placed_count cost + length old.contents ≤ 3 * length new.contents
-  InOrder-place old new xs replies cost keep run =
-      let all =
-      places old new xs replies cost 0 keep (record { below = λ lt. omega arith; twice = omega arith })
-      run in omega (arith, all)
-
 kept : {C : Type 0} {old next : State C} {p g : ℕ} → IsKept old next → p ≡ 0 → Holds old g →
     Goes old next p g
 kept {g = g} is none h = let size = ap length is.contents in record {
@@ -75,11 +52,7 @@ module _ {C : Type 0} (key : C → Key) (hash : Key → ℕ) where
   pub adding-places : (old next : State C) (k : Key) (now : List Event)
       (cost : IsAddingCost key hash old k next now) → placed_count now ≡ placed_count cost.growth + 1
   adding-places old next k now cost =
-      rw (
-        cost.parts,
-        placed_count-append (cost.search ++ cost.growth) (placed ∷ []),
-        placed_count-append cost.search cost.growth,
-      ) (omega (arith, cost.searches.0.placements))
+      simp (cost.parts, placed_count-append) (omega (arith, cost.searches.0.placements))
 
   added : (old next : State C) (adds : List C → List C → Type 0) (i g : ℕ) (k : Key) (now : List Event) →
       length next.contents ≡ length old.contents + 1 → IsAdded adds old i next →
@@ -104,13 +77,7 @@ module _ {C : Type 0} (key : C → Key) (hash : Key → ℕ) where
       → MatchOption o (IsAddingCost key hash old k next now) (λ _. SearchCost key hash old k now) →
       hashed_keys now ≡ k ∷ []
   added-hashes None old next k now cost =
-      rw (
-        cost.parts,
-        hashed_keys-append (cost.search ++ cost.growth) (placed ∷ []),
-        hashed_keys-append cost.search cost.growth,
-        cost.searches.0.hashings,
-        cost.grows.hashings,
-      ) refl
+      simp (cost.parts, hashed_keys-append, cost.searches.0.hashings, cost.grows.hashings)
   added-hashes (Some j) old next k now cost = cost.0.hashings
 
 module _ {C Q : Type 0} (key : C → Key) (value_key : Q → Key) (spelling : C → List ℕ) (adds : Q → List C →
@@ -144,39 +111,44 @@ module _ {C Q : Type 0} (key : C → Key) (value_key : Q → Key) (spelling : C 
       kept (same-kept old next (look_up-same key value_key spelling adds copies old next call r keep made))
       (look_up-places key value_key spelling adds copies hash old next call r now keep cost) h
 
+  places : (old new : State C) (calls : List (Call Q)) (replies : List Reply) (cost : List Event) (g : ℕ) →
+      All KeepsContents calls → Holds old g →
+      RunsValues key value_key spelling adds copies hash old calls replies cost new
+      → g + placed_count cost + length old.contents ≤ 3 * length new.contents
+  places old new [] [] cost g all h run = rw (run.0, run.1) (omega (arith, h.twice))
+  places old new (call ∷ calls) (r ∷ replies) cost g all h run =
+      let one = call-goes old run.0 call r run.1 g (all 0 call (omega arith)) run.4.0 run.4.1 h in
+      let rest = places run.0 new calls replies run.2 one.later (λ k d lt. all (suc k) d (omega arith))
+      one.holds run.5 in
+      rw (run.3, placed_count-append run.1 run.2) (omega (arith, one.spent, rest))
+  places old new _ _ cost g all h run = absurd run
+
   -- placements and contents before are at most three times the contents after
   pub Runs-place : (old new : State C) (calls : List (Call Q)) (replies : List Reply) (cost : List Event) →
       All KeepsContents calls → RunsValues key value_key spelling adds copies hash old calls replies cost new
       → placed_count cost + length old.contents ≤ 3 * length new.contents
-  Runs-place =
-      InOrder-place (IsCall key value_key spelling adds copies hash) KeepsContents
-      (λ old next call r now g keep made h. call-goes old next call r now g keep made.0 made.1 h)
-
-  intern-hashes : (old next : State C) (q : Q) (r : Reply) (now : List Event) →
-      StepCost key value_key hash old (Intern q) r next now → hashed_keys now ≡ value_key q ∷ []
-  intern-hashes old next q (reply.Symbol (Some i)) now cost =
-      added-hashes key hash (first key old.contents (value_key q)) old next (value_key q) now cost
-  intern-hashes old next q _ now cost = cost.0.hashings
+  Runs-place old new calls replies cost keep run =
+      let few : Holds old 0 = record { below = λ lt. omega arith; twice = omega arith } in
+      omega (arith, places old new calls replies cost 0 keep few run)
 
   -- a call hashes the key that it looks for
   step-hashes : (old next : State C) (call : Call Q) (r : Reply) (now : List Event) (calls : List (Call Q)) →
       StepCost key value_key hash old call r next now →
       hashed_keys now ++ searched_keys value_key calls ≡ searched_keys value_key (call ∷ calls)
-  step-hashes old next (Intern q) r now calls cost = rw (intern-hashes old next q r now cost) refl
-  step-hashes old next (Check q) r now calls cost = rw cost.0.hashings refl
-  step-hashes old next (GetInterned q) r now calls cost = rw cost.0.hashings refl
-  step-hashes old next (IsInterned q) r now calls cost = rw cost.0.hashings refl
-  step-hashes old next (Reserve n) r now calls cost = rw cost.hashings refl
-  step-hashes old next (ShrinkTo n) r now calls cost = rw cost.hashings refl
-  step-hashes old next ShrinkToFit r now calls cost = rw cost.hashings refl
-  step-hashes old next _ r now calls cost = rw cost refl
+  step-hashes old next (Intern q) (reply.Symbol (Some i)) now calls cost =
+      rw (added-hashes key hash (first key old.contents (value_key q)) old next (value_key q) now cost) refl
+  step-hashes old next (Intern q) _ now calls cost = rw cost.0.hashings refl
+  step-hashes old next _ r now calls cost = grind (arith, common_steps)
 
   -- a run hashes the keys that its calls look for, in their order, and nothing else
   pub Runs-hash : (old new : State C) (calls : List (Call Q)) (replies : List Reply) (cost : List Event) →
       RunsValues key value_key spelling adds copies hash old calls replies cost new
       → hashed_keys cost ≡ searched_keys value_key calls
-  Runs-hash = InOrder-hash (IsCall key value_key spelling adds copies hash) (searched_keys value_key) refl
-      (λ old next call r now calls made. step-hashes old next call r now calls made.1)
+  Runs-hash old new [] [] cost run = rw run.0 refl
+  Runs-hash old new (call ∷ calls) (r ∷ replies) cost run =
+      rw (run.3, hashed_keys-append run.1 run.2, Runs-hash run.0 new calls replies run.2 run.5)
+      (step-hashes old run.0 call r run.1 calls run.4.1)
+  Runs-hash old new _ _ cost run = absurd run
 
 -- values that aren't copied, in room that is there
 module _ {C Q : Type 0} (key : C → Key) (value_key : Q → Key) (spelling : C → List ℕ) (adds : Q → List C →

@@ -1,5 +1,5 @@
 -- Steps in order with their costs, and one step more.
-use Rattle.std.proofs.Common.{◌≡◌, suc, List, [], ◌∷◌, ◌++◌, All, append_assoc, append-nil, refl, sym, ap, arith}
+use Rattle.std.proofs.Common.{◌≡◌, List, [], ◌∷◌, ◌++◌, append_assoc, append-nil, refl, sym, ap}
 use Rattle.intaglio_content.specs.Key.{Key}
 use Rattle.intaglio_content.specs.Work.{Event, hashed}
 use Rattle.intaglio_interner.specs.Cost.{Adds, InOrder, hashed_keys}
@@ -38,28 +38,3 @@ module _ {S X Y : Type 0} (OneStep : S → X → Y → List Event → S → Type
     rw (one.1, run.1, append_assoc) refl,
     InOrder-push old xs ys run.0 mid x y one.0 new run.2 one.2,
   )
-
-  -- where each step hashes its own keys, all hash those of all, in their order
-  pub InOrder-hash : (keys : List X → List Key) → keys [] ≡ []
-      → ((old next : S) (x : X) (y : Y) (now : List Event) (xs : List X) → OneStep old x y now next →
-      hashed_keys now ++ keys xs ≡ keys (x ∷ xs))
-      → (old new : S) (xs : List X) (ys : List Y) (cost : List Event) → InOrder OneStep old xs ys cost new →
-      hashed_keys cost ≡ keys xs
-  InOrder-hash keys none one old new [] [] cost run = rw (run.0, none) refl
-  InOrder-hash keys none one old new (x ∷ xs) (y ∷ ys) cost run =
-      rw (run.3, hashed_keys-append run.1 run.2, InOrder-hash keys none one run.0 new xs ys run.2 run.5)
-      (one old run.0 x y run.1 xs run.4)
-  InOrder-hash keys none one old new _ _ cost run = absurd run
-
-  -- what each of some steps keeps to, all of them do
-  pub InOrder-keeps : (P : X → Type 0) (Keeps : S → S → Type 0) → ((s : S) → Keeps s s) →
-      ((a b c : S) → Keeps a b → Keeps b c → Keeps a c)
-      → ((old next : S) (x : X) (y : Y) (now : List Event) → P x → OneStep old x y now next → Keeps old next)
-      → (old new : S) (xs : List X) (ys : List Y) (cost : List Event) → All P xs →
-      InOrder OneStep old xs ys cost new → Keeps old new
-  InOrder-keeps P Keeps same then one old new [] [] cost all run = rw run.1 (same old)
-  InOrder-keeps P Keeps same then one old new (x ∷ xs) (y ∷ ys) cost all run =
-      then old run.0 new (one old run.0 x y run.1 (all 0 x (omega arith)) run.4)
-      (InOrder-keeps P Keeps same then one run.0 new xs ys run.2 (λ k d lt. all (suc k) d (omega arith))
-      run.5)
-  InOrder-keeps P Keeps same then one old new _ _ cost all run = absurd run

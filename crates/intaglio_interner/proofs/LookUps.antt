@@ -1,5 +1,6 @@
 -- Look-ups leave a table as it is, and internings keep its contents or add one.
-use Rattle.std.proofs.Common.{◌≡◌, ◌⊎◌, ℕ, Bool, List, Some, Ok, Err, Result, alloc_error, refl}
+use Rattle.std.proofs.lemmas.Grind.{common_steps}
+use Rattle.std.proofs.Common.{arith, ◌≡◌, ◌⊎◌, ℕ, Bool, List, Some, Ok, Err, Result, alloc_error}
 use Rattle.intaglio_content.specs.Key.{Key}
 use Rattle.intaglio_content.specs.Work.{Event}
 use Rattle.intaglio_interner.specs.State.{State}
@@ -30,30 +31,19 @@ module _ {C Q : Type 0} (key : C → Key) (value_key : Q → Key) (spelling : C 
   pub look_up-same : (old new : State C) (call : Call Q) (r : Reply) → LooksUp call →
       Step key value_key spelling adds copies old call r new → new ≡ old
   look_up-same old new (Check q) (reply.Symbol x) looks step = step.1
-  look_up-same old new (Check q) _ looks step = absurd step
   look_up-same old new (GetInterned q) r looks step = step.1
   look_up-same old new (IsInterned q) (reply.Bool x) looks step = step.1
-  look_up-same old new (IsInterned q) _ looks step = absurd step
   look_up-same old new (Contains s) (reply.Bool x) looks step = step.1
-  look_up-same old new (Contains s) _ looks step = absurd step
   look_up-same old new (Get s) r looks step = step.1
   look_up-same old new Len (reply.Count x) looks step = step.1
-  look_up-same old new Len _ looks step = absurd step
   look_up-same old new IsEmpty (reply.Bool x) looks step = step.1
-  look_up-same old new IsEmpty _ looks step = absurd step
-  look_up-same old new _ r looks step = absurd looks
+  look_up-same old new _ _ looks step = absurd (search (looks, step))
 
   -- and places nothing
   pub look_up-places : (hash : Key → ℕ) (old new : State C) (call : Call Q) (r : Reply) (now : List Event) →
       LooksUp call → StepCost key value_key hash old call r new now → placed_count now ≡ 0
   look_up-places hash old new (Check q) r now looks cost = cost.0.placements
-  look_up-places hash old new (GetInterned q) r now looks cost = cost.0.placements
-  look_up-places hash old new (IsInterned q) r now looks cost = cost.0.placements
-  look_up-places hash old new (Contains s) r now looks cost = rw cost refl
-  look_up-places hash old new (Get s) r now looks cost = rw cost refl
-  look_up-places hash old new Len r now looks cost = rw cost refl
-  look_up-places hash old new IsEmpty r now looks cost = rw cost refl
-  look_up-places hash old new _ r now looks cost = absurd looks
+  look_up-places hash old new _ r now looks cost = grind (arith, common_steps)
 
   -- an interning by its result
   pub interns-as : (old new : State C) (q : Q) (r : Reply) →

@@ -1,5 +1,5 @@
 -- Room that was there stays, but for calls that shrink.
-use Rattle.std.proofs.Common.{ℕ, Bool, List, length, All, inl, inr, ap, arith}
+use Rattle.std.proofs.Common.{ℕ, suc, Bool, List, [], ◌∷◌, length, All, inl, inr, ap, arith}
 use Rattle.std.proofs.lemmas.Bool.{cases_lt}
 use Rattle.intaglio_content.specs.Key.{Key}
 use Rattle.intaglio_content.specs.Store.{IsAddedOne}
@@ -7,14 +7,13 @@ use Rattle.intaglio_content.specs.Work.{Event}
 use Rattle.intaglio_interner.specs.State.{State}
 use Rattle.intaglio_interner.specs.Change.{HasNoLessRoom}
 use Rattle.intaglio_interner.specs.Step.{Step}
-use Rattle.intaglio_interner.specs.Run.{RunsValues, IsCall, KeepsRoom}
+use Rattle.intaglio_interner.specs.Run.{RunsValues, KeepsRoom}
 use Rattle.intaglio_interner.specs.declared.runs.Call.{Call}
 use Rattle.intaglio_interner.specs.declared.runs.Call.TheVariants.{Intern, Clear, Reserve, TakeBack}
 use Rattle.intaglio_interner.specs.declared.runs.Reply.{Reply}
 use Rattle.intaglio_interner.specs.declared.runs.Reply.TheVariants as reply
-use Rattle.intaglio_interner.proofs.InOrder.{InOrder-keeps}
 use Rattle.intaglio_interner.proofs.LookUps.{look_up-same, interns-as}
-use Rattle.intaglio_interner.proofs.Room.{same-kept, kept-roomier, interns-roomier}
+use Rattle.intaglio_interner.proofs.Room.{interns-roomier}
 
 module _ {C Q : Type 0} (key : C → Key) (value_key : Q → Key) (spelling : C → List ℕ) (adds : Q → List C →
     List C → Type 0) (copies : Bool) (one : (q : Q) (a b : List C) → adds q a b →
@@ -27,28 +26,29 @@ module _ {C Q : Type 0} (key : C → Key) (value_key : Q → Key) (spelling : C 
   call-roomier old next (Reserve n) reply.Done keep made =
       elim (cases_lt old.spare n) [
         | inl missing ↦ omega (arith, ap length made.contents, made.spare)
-        | inr there ↦ kept-roomier old next (same-kept old next (made.enough there))
+        | inr there ↦ rw (made.enough there) (omega arith)
       ]
-  call-roomier old next (Reserve n) reply.CapacityOverflow keep made =
-      kept-roomier old next (same-kept old next made.1)
+  call-roomier old next (Reserve n) reply.CapacityOverflow keep made = rw made.1 (omega arith)
   call-roomier old next (Reserve n) reply.NoMemory keep made =
       omega (arith, ap length made.contents, made.spare)
   call-roomier old next (Reserve n) _ keep made = absurd made
   call-roomier old next Clear reply.Done keep made = omega (arith, ap length made.contents, made.spare)
   call-roomier old next Clear _ keep made = absurd made
   call-roomier old next (TakeBack n) reply.Done keep made = omega (arith, made.spare)
-  call-roomier old next (TakeBack n) reply.Stale keep made =
-      kept-roomier old next (same-kept old next (made (record { private = tt })).1)
+  call-roomier old next (TakeBack n) reply.Stale keep made = rw (made (record { private = tt })).1 (omega arith)
   call-roomier old next (TakeBack n) _ keep made = absurd made
   call-roomier old next call r keep made =
-      kept-roomier old next
-      (same-kept old next (look_up-same key value_key spelling adds copies old next call r keep made))
+      rw (look_up-same key value_key spelling adds copies old next call r keep made) (omega arith)
 
   -- capacity doesn't fall over a run that shrinks nothing
   pub Runs-roomier : (hash : Key → ℕ) (old new : State C) (calls : List (Call Q)) (replies : List Reply)
       (cost : List Event) → All KeepsRoom calls →
       RunsValues key value_key spelling adds copies hash old calls replies cost new
       → HasNoLessRoom old new
-  Runs-roomier hash = InOrder-keeps (IsCall key value_key spelling adds copies hash) KeepsRoom HasNoLessRoom
-      (λ s. omega arith) (λ a b c one rest. omega (arith, one, rest)) (λ old next call r now keep made.
-      call-roomier old next call r keep made.0)
+  Runs-roomier hash old new [] [] cost all run = rw run.1 (omega arith)
+  Runs-roomier hash old new (call ∷ calls) (r ∷ replies) cost all run = omega (
+    arith,
+    call-roomier old run.0 call r (all 0 call (omega arith)) run.4.0,
+    Runs-roomier hash run.0 new calls replies run.2 (λ k d lt. all (suc k) d (omega arith)) run.5,
+  )
+  Runs-roomier hash old new _ _ cost all run = absurd run
