@@ -1,7 +1,7 @@
 -- How often the memory of a table's contents grows.
 use Rattle.std.proofs.lemmas.Grind.{common_steps}
 use Rattle.std.proofs.Common.{◌≡◌, ◌≢◌, ℕ, suc, ◌+◌, ◌*◌, ◌^◌, ◌≤◌, max, Bool, List, [], ◌∷◌, ◌++◌, length, All, inl, inr, refl, ap, arith}
-use Rattle.std.proofs.lemmas.Bool.{cases_eq, cases_lt, ne_eqb}
+use Rattle.std.proofs.lemmas.Bool.{cases_eq, ne_eqb}
 use Rattle.std.proofs.Math.Nat.{mul-le-mul_left, mul_assoc, pow-suc}
 use Rattle.intaglio_content.specs.Key.{Key}
 use Rattle.intaglio_content.specs.Store.{IsAddedOne}
@@ -12,7 +12,7 @@ use Rattle.intaglio_interner.proofs.Room.{added-length}
 use Rattle.intaglio_interner.proofs.LookUps.{look_up-same, intern-either}
 use Rattle.intaglio_interner.specs.Growths.{Room, changes, bytes_of, CallGrows, RunsGrowing}
 use Rattle.intaglio_interner.specs.declared.runs.Call.{Call}
-use Rattle.intaglio_interner.specs.declared.runs.Call.TheVariants.{Intern, Reserve, ShrinkTo, ShrinkToFit}
+use Rattle.intaglio_interner.specs.declared.runs.Call.TheVariants.{Intern, ShrinkToFit}
 use Rattle.intaglio_interner.specs.declared.runs.Reply.{Reply}
 
 -- a number that at least doubles where it changes, and then doubles so often
@@ -33,37 +33,22 @@ module _ {C Q : Type 0} (takes : C → ℕ) (needs : Q → ℕ) where
   -- room for contents that changes at least doubles
   list-doubles : (old next : Room C) (call : Call Q) → KeepsRoom call → CallGrows takes needs old call next →
       next.most ≢ old.most → 2 * max 1 old.most ≤ max 1 next.most
-  list-doubles old next (Intern q) keep grows differ = let grown = grows.0.grown differ in
-      omega (arith, grown)
-  list-doubles old next (Reserve n) keep grows differ = let grown = grows.0.grown differ in
-      omega (arith, grown)
-  list-doubles old next (ShrinkTo n) keep grows differ = absurd keep
   list-doubles old next ShrinkToFit keep grows differ = absurd keep
-  list-doubles old next _ keep grows differ = absurd (differ grows.0)
+  list-doubles old next _ keep grows differ = grind (arith, common_steps)
 
   -- a growth for an interning makes room for at most twice as many contents as there are, or for 4
   list-within : (old next : Room C) (call : Call Q) → KeepsContents call →
       CallGrows takes needs old call next → next.most ≢ old.most →
       next.most ≤ max 4 (2 * length old.state.contents)
-  list-within old next (Intern q) keep grows differ =
-      elim (cases_lt old.most (length old.state.contents + 1)) [
-        | inl full ↦ let grown = grows.0.grown differ in omega (arith, grown, full)
-        | inr enough ↦ absurd (differ (grows.0.enough enough))
-      ]
-  list-within old next (Reserve n) keep grows differ = absurd keep
-  list-within old next (ShrinkTo n) keep grows differ = absurd keep
   list-within old next ShrinkToFit keep grows differ = absurd keep
-  list-within old next _ keep grows differ = absurd (differ grows.0)
+  list-within old next _ keep grows differ = grind (arith, common_steps)
 
   -- room for bytes that changes at least doubles
   bytes-double : (old next : Room C) (call : Call Q) → KeepsRoom call → CallGrows takes needs old call next →
       bytes_of takes next ≢ bytes_of takes old
       → 2 * max 1 (bytes_of takes old) ≤ max 1 (bytes_of takes next)
-  bytes-double old next (Intern q) keep grows differ = let grown = grows.1.grown differ in
-      omega (arith, grown)
-  bytes-double old next (ShrinkTo n) keep grows differ = absurd keep
   bytes-double old next ShrinkToFit keep grows differ = absurd keep
-  bytes-double old next _ keep grows differ = absurd (differ grows.1)
+  bytes-double old next _ keep grows differ = grind (arith, common_steps)
 
   module _ (IsStep : State C → Call Q → Reply → State C → Type 0) where
     -- the room for contents, and that for bytes, doubled as often as it changed
@@ -114,26 +99,19 @@ module _ {C Q : Type 0} (takes : C → ℕ) (needs : Q → ℕ) where
 
     module _ (sizes : (old next : State C) (call : Call Q) (r : Reply) → KeepsContents call →
         IsStep old call r next → length old.contents ≤ length next.contents) where
-      few : (old : Room C) (calls : List (Call Q)) (replies : List Reply) (g h : ℕ) (new : Room C) →
-          All KeepsContents calls → RunsGrowing takes needs IsStep old calls replies g h new
-          → (length old.state.contents ≤ length new.state.contents)
-          × (new.most ≤ max old.most (max 4 (2 * length new.state.contents)))
-      few old [] [] g h new keep run = rw run.2 (omega arith, omega arith)
-      few old (call ∷ calls) (r ∷ replies) g h new keep run =
-          let rest = few run.0 calls replies run.1 run.2 new (λ k d lt. keep (suc k) d (omega arith)) run.7 in
-          let size = sizes old.state run.0.state call r (keep 0 call (omega arith)) run.5 in
-          elim (cases_eq run.0.most old.most) [
-            | inl same ↦ (omega (arith, size, rest.0), omega (arith, same, rest.1))
-            | inr differ ↦ let more = list-within old run.0 call (keep 0 call (omega arith)) run.6 differ in
-                (omega (arith, size, rest.0), omega (arith, more, size, rest.0, rest.1))
-          ]
-      few old _ _ g h new keep run = absurd run
-
-      -- there is room for few more contents than there are
+      -- there is room for few more contents than there are, which aren't fewer than before
       pub few-growths : (old : Room C) (calls : List (Call Q)) (replies : List Reply) (g h : ℕ)
           (new : Room C) → All KeepsContents calls → RunsGrowing takes needs IsStep old calls replies g h new
-          → new.most ≤ max old.most (max 4 (2 * length new.state.contents))
-      few-growths old calls replies g h new keep run = (few old calls replies g h new keep run).1
+          → (length old.state.contents ≤ length new.state.contents)
+          × (new.most ≤ max old.most (max 4 (2 * length new.state.contents)))
+      few-growths old [] [] g h new keep run = rw run.2 (omega arith, omega arith)
+      few-growths old (call ∷ calls) (r ∷ replies) g h new keep run =
+          let rest = few-growths run.0 calls replies run.1 run.2 new (λ k d lt. keep (suc k) d (omega arith))
+          run.7 in
+          let size = sizes old.state run.0.state call r (keep 0 call (omega arith)) run.5 in
+          let more = list-within old run.0 call (keep 0 call (omega arith)) run.6 in
+          (omega (arith, size, rest.0), grind (arith, common_steps))
+      few-growths old _ _ g h new keep run = absurd run
 
 -- internings and look-ups drop no content
 module _ {C Q : Type 0} (key : C → Key) (value_key : Q → Key) (spelling : C → List ℕ) (adds : Q → List C →
@@ -148,8 +126,4 @@ module _ {C Q : Type 0} (key : C → Key) (value_key : Q → Key) (spelling : C 
             omega (arith, added-length key (adds q) copies (value_key q) (one q) old next added.0 added.1)
       ]
   call-size old next call r keep made =
-      omega (
-        arith,
-        ap (λ (s : State C). length s.contents)
-            (look_up-same key value_key spelling adds copies old next call r keep made),
-      )
+      rw (look_up-same key value_key spelling adds copies old next call r keep made) (omega arith)

@@ -1,11 +1,12 @@
 use Rattle.std.proofs.Common.{◌≡◌, ◌+◌, ◌∙◌, [], arith, append_assoc, append-nil, refl, sym, rules}
 use Rattle.std.specs.Vec.Iter.{into_iter_items}
+use Rattle.std.proofs.lemmas.List.Elements.{All-nil}
 use Rattle.std.proofs.lemmas.Grind.{common_steps}
 use Rattle.intaglio_interner.proofs.Growth.{Runs-hash, Runs-place, Runs-room}
 use Rattle.intaglio_interner.proofs.Issued.{Runs-issue}
 use Rattle.intaglio_interner.proofs.RoomKept.{Runs-roomier}
 use Rattle.intaglio_interner.specs.Run.{KeepsRoom}
-use Rattle.intaglio_interner.proofs.Bytes.{All-next, StillRoom-push}
+use Rattle.intaglio_interner.proofs.Bytes.{All-next, StillRoom-next}
 use Rattle.intaglio_interner.proofs.InOrder.{Adds-push}
 use Rattle.intaglio_interner.specs.Step.{Step}
 use Rattle.intaglio_interner.specs.Growths.{room, changes, bytes_of}
@@ -24,7 +25,10 @@ loop-call-init g c =
       whole = all;
       room = search rules;
       bytes = λ keep. omega arith;
-      still = grind (arith, common_steps);
+      still = λ qs is few there enough. (
+        rw c.in_ok-replies.ensures.items (All-nil _),
+        (qs, all ∙ is, few, enough),
+      );
     }
 
 pub loop-call-preserved : goal.loop-call-preserved
@@ -58,12 +62,12 @@ loop-call-preserved g c = record {
     c.step.ensures.bytes
         (All-next KeepsRoom _ _ _ _ _ c.loop-call.invariant.whole c.in-Some.ensures.steps.0 keep),
   );
-  still = rw c.push_reserved.ensures.items
-      (StillRoom-push g.T.Content.Keyed.key g.Q.Keyed.key g.T.Content.Content.spelling g.Q.AddedTo.adds
-      g.Q.AddedTo.copies g.Q.AddedTo.needs g.Q.AddedTo.in_store (g.T.BaseInterner.state c.args.table.now)
-      (g.T.BaseInterner.state c.loop-call.table) (g.T.BaseInterner.state c.step.new.table) _ _ _ _ _ _ _ _ _
-      c.step.result c.loop-call.invariant.whole c.in-Some.ensures.steps.0 c.loop-call.invariant.still
-      c.step.ensures.room c.step.ensures.step);
+  still = rw c.push_reserved.ensures.items (λ qs is few there enough.
+      let so_far = c.loop-call.invariant.still qs is few there enough in
+      StillRoom-next g.T.Content.Keyed.key g.Q.Keyed.key g.T.Content.Content.spelling g.Q.AddedTo.adds
+      g.Q.AddedTo.copies g.Q.AddedTo.needs g.Q.AddedTo.in_store so_far.1.0 _ _ _ _ _ _ _ c.step.result
+      (sym c.in-Some.ensures.steps.0 ∙ so_far.1.1) so_far.1.2 there so_far.1.3 so_far.0 c.step.ensures.room
+      c.step.ensures.step);
 }
 
 pub returns : goal.returns
@@ -76,30 +80,28 @@ returns g c =
     let one = g.met.Q.AddedTo.adds_one in
     let hash = g.T.BaseInterner.hash c.args.table.now in
     let steps = Step key value_key spelling adds copies in
-    let ran = c.loop-call.invariant.ran in
     let so_far = c.loop-call.invariant.growths in
     let all : c.loop-call.yielded ≡ c.args.calls.items = grind (arith, common_steps) in
+    let ran = rw all at c.loop-call.invariant.ran in
     let run = rw all at so_far.2 in
     record {
-      ok = rw all at ran;
+      ok = ran;
       issues = λ cs empty interns none. Runs-issue key value_key spelling adds copies one hash _ _ cs _ ran.0
-          empty (rw (all ∙ interns) at ran.2) none;
+          empty (rw interns at ran.2) none;
       hashes = (
         ran.0,
         ran.1,
-        rw (← all) (Runs-hash key value_key spelling adds copies one hash _ _ c.loop-call.yielded _
-            ran.0 ran.2),
+        Runs-hash key value_key spelling adds copies one hash _ _ c.args.calls.items _ ran.0 ran.2,
       );
       growth = (
         ran.0,
         ran.1,
-        λ keep. Runs-place key value_key spelling adds copies one hash _ _ c.loop-call.yielded
-            _ ran.0 (rw all keep) ran.2,
+        λ keep. Runs-place key value_key spelling adds copies one hash _ _ c.args.calls.items _ ran.0 keep
+            ran.2,
       );
-      capacity = λ keep. Runs-roomier key value_key spelling adds copies one hash _ _ c.loop-call.yielded _
-          ran.0 (rw all keep) ran.2;
-      room = rw (← all) (Runs-room key value_key spelling adds hash copies _ _ c.loop-call.yielded _
-          ran.0 ran.2);
+      capacity = λ keep. Runs-roomier key value_key spelling adds copies one hash _ _ c.args.calls.items _
+          ran.0 keep ran.2;
+      room = Runs-room key value_key spelling adds hash copies _ _ c.args.calls.items _ ran.0 ran.2;
       same_hash = c.loop-call.invariant.same_hash;
       bytes = c.loop-call.invariant.bytes;
       byte_room = λ qs interns few there enough. (c.loop-call.invariant.still qs interns few there enough).0;
@@ -108,8 +110,8 @@ returns g c =
         h = so_far.1;
         growths = run;
         list = λ keep. (all-growths g.T.Store.Store.takes g.Q.AddedTo.needs steps _ _ _ _ _ _ keep run).0;
-        few = λ keep. few-growths g.T.Store.Store.takes g.Q.AddedTo.needs steps (λ old next call r kept made.
-            call-size key value_key spelling adds copies one old next call r kept made) _ _ _ _ _ _ keep run;
+        few = λ keep. (few-growths g.T.Store.Store.takes g.Q.AddedTo.needs steps (λ old next call r kept made.
+            call-size key value_key spelling adds copies one old next call r kept made) _ _ _ _ _ _ keep run).1;
         bytes = λ keep. (all-growths g.T.Store.Store.takes g.Q.AddedTo.needs steps _ _ _ _ _ _ keep run).1;
       };
       err = tt;

@@ -29,8 +29,7 @@ invariant-loop-call g l = record {
   bytes : HoldsBytes g.T.Store.Store.takes (g.T.BaseInterner.state l.initial.table)
       (g.T.BaseInterner.spare_bytes l.initial.table) l.fn.calls.items (g.T.BaseInterner.state l.table)
       (g.T.BaseInterner.spare_bytes l.table);
-  still : StillRoom g.T.Content.Keyed.key g.Q.Keyed.key g.T.Content.Content.spelling g.Q.AddedTo.adds
-      g.Q.AddedTo.copies g.Q.AddedTo.needs g.Q.AddedTo.in_store (g.T.BaseInterner.state l.initial.table)
+  still : StillRoom g.Q.AddedTo.needs g.Q.AddedTo.in_store (g.T.BaseInterner.state l.initial.table)
       (g.T.BaseInterner.spare_bytes l.initial.table) l.fn.calls.items (into_iter_items l.call-iterator)
       l.replies.items (g.T.BaseInterner.state l.table) (g.T.BaseInterner.spare_bytes l.table);
 }
