@@ -160,30 +160,21 @@ module _ {C Q : Type 0} (key : C → Key) (value_key : Q → Key) (spelling : C 
   had-room None old next h lt = let none : old.spare ≡ 0 = h.no_room in omega arith
   had-room (Some j) old next h lt = let no = h.0 in cc
 
-  -- one interning in room that is there: it isn't refused, and takes at most one place
-  taken-in-room : (old next : State C) (q : Q) (r : Reply) (n : ℕ) →
-      Step key value_key spelling adds false old (Intern q) r next → suc n ≤ old.spare → (r ≢ reply.NoMemory)
-      × (n ≤ next.spare)
-  taken-in-room old next q r n made lt = (
-    quiet r made,
-    omega (arith, lt, intern-spare key value_key spelling adds false old next q r made (omega arith)),
-  )
-    where
-      quiet : (r : Reply) → Step key value_key spelling adds false old (Intern q) r next → r ≢ reply.NoMemory
-      quiet reply.NoMemory step =
-          absurd (had-room (first key old.contents (value_key q)) old next step (omega arith))
-      quiet (reply.Symbol i) step = λ e. cc
-      quiet reply.Overflow step = λ e. cc
-      quiet _ step = absurd step
+  -- one interning in room that is there isn't refused
+  quiet : (old next : State C) (q : Q) (r : Reply) →
+      Step key value_key spelling adds false old (Intern q) r next → 0 < old.spare → r ≢ reply.NoMemory
+  quiet old next q reply.NoMemory step lt =
+      absurd (had-room (first key old.contents (value_key q)) old next step lt)
+  quiet old next q _ step lt = λ e. cc
 
   in-room : (old new : State C) (qs : List Q) (replies : List Reply) (cost : List Event) →
       RunsValues key value_key spelling adds false hash old (map Intern qs) replies cost new →
       length qs ≤ old.spare → All (λ r. r ≢ reply.NoMemory) replies
   in-room old new [] [] cost run le = λ k d lt. absurd (omega arith)
   in-room old new (q ∷ qs) (r ∷ replies) cost run le =
-      let made = taken-in-room old run.0 q r (length qs) run.4.0 le in
-      All-cons (λ (x : Reply). x ≢ reply.NoMemory) r replies made.0
-      (in-room run.0 new qs replies run.2 run.5 made.1)
+      let less = intern-spare key value_key spelling adds false old run.0 q r run.4.0 (omega arith) in
+      All-cons (λ (x : Reply). x ≢ reply.NoMemory) r replies (quiet old run.0 q r run.4.0 (omega arith))
+      (in-room run.0 new qs replies run.2 run.5 (omega arith))
   in-room old new _ _ cost run le = absurd run
 
   -- as many as there is room for are interned without running out of memory, unless they are copied

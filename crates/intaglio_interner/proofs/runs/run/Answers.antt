@@ -45,9 +45,9 @@ loop-call-preserved g c = record {
       (g.T.BaseInterner.spare_bytes c.loop-call.table) in
       let next = room (g.T.BaseInterner.state c.step.new.table) (g.T.BaseInterner.most c.step.new.table)
       (g.T.BaseInterner.spare_bytes c.step.new.table) in (
-        so_far.0 + changes mid.most next.most,
-        so_far.1 + changes (bytes_of g.T.Store.Store.takes mid) (bytes_of g.T.Store.Store.takes next),
-        rw c.push_reserved.ensures.items
+        _,
+        _,
+        rw (← c.push_reserved.ensures.items) at
             (growing-push g.T.Store.Store.takes g.Q.AddedTo.needs
             (Step g.T.Content.Keyed.key g.Q.Keyed.key g.T.Content.Content.spelling g.Q.AddedTo.adds
             g.Q.AddedTo.copies) _ _ _ so_far.0 so_far.1 mid _ c.step.result next so_far.2

@@ -1,7 +1,7 @@
 use Rattle.std.proofs.lemmas.Grind.{common_steps}
 use Rattle.std.proofs.Common.{ℕ, ◌<◌, ◌≤◌, arith, ◌∙◌}
 use Rattle.intaglio_interner.specs.Batch.{AreHashed}
-use Rattle.intaglio_interner.proofs.Groups.{hashed-first, hashed-next}
+use Rattle.intaglio_interner.proofs.Groups.{hashed-first}
 use Rattle.intaglio_interner.proofs.batch.ahead.next_of_group.Goals.{then-ahead-eq0, else-ahead-eq0}
 use Rattle.intaglio_interner.proofs.batch.ahead.next_of_group.Goals as goal
 
@@ -17,9 +17,10 @@ returns g c =
     ] in
     let some : 0 < ahead = grind (arith, common_steps) in
     let within : ahead ≤ 64 = grind (arith, common_steps) in
+    let both = hashed-first f c.if-ahead-eq0.hashes group ahead values some within known in
     record {
-      hash = hashed-first f c.if-ahead-eq0.hashes group ahead values some within known;
-      known = hashed-next f c.if-ahead-eq0.hashes group ahead values some within known;
+      hash = both.0;
+      known = both.1;
       group = group;
       ahead = grind (arith, common_steps);
       cost = grind (arith, common_steps);
