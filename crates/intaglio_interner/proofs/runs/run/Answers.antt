@@ -39,20 +39,14 @@ loop-call-preserved g c = record {
       (Adds-push _ _ _ _ _ _ _ _ _ _ _ c.loop-call.invariant.ran (let spent =
       rw c.loop-call.invariant.same_hash at c.step.ensures.cost in
       (spent.0, spent.1, (c.step.ensures.step, spent.2, c.step.ensures.valid))));
-  growths =
-      let so_far = c.loop-call.invariant.growths in
-      let mid = room (g.T.BaseInterner.state c.loop-call.table) (g.T.BaseInterner.most c.loop-call.table)
-      (g.T.BaseInterner.spare_bytes c.loop-call.table) in
-      let next = room (g.T.BaseInterner.state c.step.new.table) (g.T.BaseInterner.most c.step.new.table)
-      (g.T.BaseInterner.spare_bytes c.step.new.table) in (
-        _,
-        _,
-        rw (← c.push_reserved.ensures.items) at
-            (growing-push g.T.Store.Store.takes g.Q.AddedTo.needs
-            (Step g.T.Content.Keyed.key g.Q.Keyed.key g.T.Content.Content.spelling g.Q.AddedTo.adds
-            g.Q.AddedTo.copies) _ _ _ so_far.0 so_far.1 mid _ c.step.result next so_far.2
-            c.step.ensures.step c.step.ensures.grows),
-      );
+  growths = (
+    _,
+    _,
+    rw (← c.push_reserved.ensures.items) at (growing-push g.T.Store.Store.takes g.Q.AddedTo.needs
+        (Step g.T.Content.Keyed.key g.Q.Keyed.key g.T.Content.Content.spelling g.Q.AddedTo.adds
+        g.Q.AddedTo.copies) _ _ _ _ _ _ _ c.step.result _ c.loop-call.invariant.growths.2
+        c.step.ensures.step c.step.ensures.grows),
+  );
   same_hash = c.step.ensures.same_hash ∙ c.loop-call.invariant.same_hash;
   whole = rw (append_assoc, ← c.in-Some.ensures.steps.0) c.loop-call.invariant.whole;
   room = omega (arith, c.in-Some.ensures.steps);
