@@ -42,9 +42,7 @@ loop-call-preserved g c = record {
   growths = (
     _,
     _,
-    rw (← c.push_reserved.ensures.items) at (growing-push g.T.Store.Store.takes g.Q.AddedTo.needs
-        (Step g.T.Content.Keyed.key g.Q.Keyed.key g.T.Content.Content.spelling g.Q.AddedTo.adds
-        g.Q.AddedTo.copies) _ _ _ _ _ _ _ c.step.result _ c.loop-call.invariant.growths.2
+    rw (← c.push_reserved.ensures.items) at (growing-push _ _ _ _ _ _ _ _ _ _ c.step.result _ c.loop-call.invariant.growths.2
         c.step.ensures.step c.step.ensures.grows),
   );
   same_hash = c.step.ensures.same_hash ∙ c.loop-call.invariant.same_hash;
@@ -59,43 +57,26 @@ loop-call-preserved g c = record {
   still = rw c.push_reserved.ensures.items (λ qs is few there enough.
       let so_far = c.loop-call.invariant.still qs is few there enough in
       StillRoom-next g.T.Content.Keyed.key g.Q.Keyed.key g.T.Content.Content.spelling g.Q.AddedTo.adds
-      g.Q.AddedTo.copies g.Q.AddedTo.needs g.Q.AddedTo.in_store so_far.1.0 _ _ _ _ _ _ _ c.step.result
+      g.Q.AddedTo.copies _ _ so_far.1.0 _ _ _ _ _ _ _ c.step.result
       (sym c.in-Some.ensures.steps.0 ∙ so_far.1.1) so_far.1.2 there so_far.1.3 so_far.0 c.step.ensures.room
       c.step.ensures.step);
 }
 
 pub returns : goal.returns
 returns g c =
-    let key = g.T.Content.Keyed.key in
-    let value_key = g.Q.Keyed.key in
-    let spelling = g.T.Content.Content.spelling in
-    let adds = g.Q.AddedTo.adds in
-    let copies = g.Q.AddedTo.copies in
     let one = g.met.Q.AddedTo.adds_one in
-    let hash = g.T.BaseInterner.hash c.args.table.now in
-    let steps = Step key value_key spelling adds copies in
     let so_far = c.loop-call.invariant.growths in
     let all : c.loop-call.yielded ≡ c.args.calls.items = grind (arith, common_steps) in
     let ran = rw all at c.loop-call.invariant.ran in
     let run = rw all at so_far.2 in
     record {
       ok = ran;
-      issues = λ cs empty interns none. Runs-issue key value_key spelling adds copies one hash _ _ cs _ ran.0
-          empty (rw interns at ran.2) none;
-      hashes = (
-        ran.0,
-        ran.1,
-        Runs-hash key value_key spelling adds copies one hash _ _ c.args.calls.items _ ran.0 ran.2,
-      );
-      growth = (
-        ran.0,
-        ran.1,
-        λ keep. Runs-place key value_key spelling adds copies one hash _ _ c.args.calls.items _ ran.0 keep
-            ran.2,
-      );
-      capacity = λ keep. Runs-roomier key value_key spelling adds copies one hash _ _ c.args.calls.items _
-          ran.0 keep ran.2;
-      room = Runs-room key value_key spelling adds hash copies _ _ c.args.calls.items _ ran.0 ran.2;
+      issues = λ cs empty interns none.
+          Runs-issue _ _ _ _ _ one _ _ _ cs _ _ empty (rw interns at ran.2) none;
+      hashes = (ran.0, ran.1, Runs-hash _ _ _ _ _ one _ _ _ _ _ _ ran.2);
+      growth = (ran.0, ran.1, λ keep. Runs-place _ _ _ _ _ one _ _ _ _ _ _ keep ran.2);
+      capacity = λ keep. Runs-roomier _ _ _ _ _ one _ _ _ _ _ _ keep ran.2;
+      room = Runs-room _ _ _ _ _ _ _ _ _ _ _ ran.2;
       same_hash = c.loop-call.invariant.same_hash;
       bytes = c.loop-call.invariant.bytes;
       byte_room = λ qs interns few there enough. (c.loop-call.invariant.still qs interns few there enough).0;
@@ -103,10 +84,9 @@ returns g c =
         g = so_far.0;
         h = so_far.1;
         growths = run;
-        list = λ keep. (all-growths g.T.Store.Store.takes g.Q.AddedTo.needs steps _ _ _ _ _ _ keep run).0;
-        few = λ keep. (few-growths g.T.Store.Store.takes g.Q.AddedTo.needs steps (λ old next call r kept made.
-            call-size key value_key spelling adds copies one old next call r kept made) _ _ _ _ _ _ keep run).1;
-        bytes = λ keep. (all-growths g.T.Store.Store.takes g.Q.AddedTo.needs steps _ _ _ _ _ _ keep run).1;
+        list = λ keep. (all-growths _ _ _ _ _ _ _ _ _ keep run).0;
+        few = λ keep. (few-growths _ _ _ (call-size _ _ _ _ _ one) _ _ _ _ _ _ keep run).1;
+        bytes = λ keep. (all-growths _ _ _ _ _ _ _ _ _ keep run).1;
       };
       err = tt;
       same_bytes = tt;
