@@ -1,4 +1,4 @@
-use Rattle.std.proofs.Common.{◌≡◌, ◌+◌, ◌∙◌, [], arith, append_assoc, append-nil, refl, sym, rules}
+use Rattle.std.proofs.Common.{◌≡◌, ◌∙◌, [], arith, append_assoc, append-nil, refl, sym, rules}
 use Rattle.std.specs.Vec.Iter.{into_iter_items}
 use Rattle.std.proofs.lemmas.List.Elements.{All-nil}
 use Rattle.std.proofs.lemmas.Grind.{common_steps}
@@ -8,8 +8,6 @@ use Rattle.intaglio_interner.proofs.RoomKept.{Runs-roomier}
 use Rattle.intaglio_interner.specs.Run.{KeepsRoom}
 use Rattle.intaglio_interner.proofs.Bytes.{All-next, StillRoom-next}
 use Rattle.intaglio_interner.proofs.InOrder.{Adds-push}
-use Rattle.intaglio_interner.specs.Step.{Step}
-use Rattle.intaglio_interner.specs.Growths.{room, changes, bytes_of}
 use Rattle.intaglio_interner.proofs.Growths.{growing-push, all-growths, call-size, few-growths}
 use Rattle.intaglio_interner.proofs.runs.run.Goals as goal
 
