@@ -1,15 +1,14 @@
 -- Interns alone, none refused, are given the symbols of `issue_from`.
-use Rattle.std.proofs.lemmas.List.{length-map, map-append}
-use Rattle.std.proofs.Common.{◌≡◌, ◌∙◌, sym, ℕ, suc, arith, Bool, List, [], ◌∷◌, ◌++◌, length, map, Option, Some, None, unwrap_or, is_some, cond, All, refl, ap}
+use Rattle.std.proofs.lemmas.Grind.{common_steps}
+use Rattle.std.proofs.lemmas.List.{length-map}
+use Rattle.std.proofs.Common.{◌≡◌, ◌∙◌, sym, ℕ, suc, arith, Bool, List, [], ◌∷◌, ◌++◌, length, map, Some, unwrap_or, is_some, cond, All, refl, ap}
 use Rattle.intaglio_content.specs.Key.{Key}
 use Rattle.intaglio_content.specs.Store.{IsAddedOne}
 use Rattle.intaglio_content.specs.Work.{Event}
 use Rattle.intaglio_interner.specs.State.{State, first}
-use Rattle.intaglio_interner.specs.Cost.{InOrder}
 use Rattle.intaglio_interner.specs.Issue.{issued, interned, issue_from, issue}
 use Rattle.intaglio_interner.specs.Step.{Step}
-use Rattle.intaglio_interner.specs.Run.{RunsValues, IsCall, IsRefusal}
-use Rattle.intaglio_interner.specs.declared.runs.Call.{Call}
+use Rattle.intaglio_interner.specs.Run.{RunsValues, IsRefusal}
 use Rattle.intaglio_interner.specs.declared.runs.Call.TheVariants.{Intern}
 use Rattle.intaglio_interner.specs.declared.runs.Reply.{Reply}
 use Rattle.intaglio_interner.specs.declared.runs.Reply.TheVariants as reply
@@ -22,39 +21,11 @@ IsIssued key old k i new =
     (i ≡ unwrap_or o (length old.contents))
     × (map key new.contents ≡ cond (is_some o) (map key old.contents) (map key old.contents ++ k ∷ []))
 
--- where each accepted interning does so, all are given the symbols of
--- `issue_from`, which go by the keys alone
-module _ {C Q : Type 0} (key : C → Key) (form_key : Q → Key) (OneStep : State C → Call Q → Reply →
-    List Event → State C → Type 0)
-    (one : (old : State C) (q : Q) (r : Reply) (now : List Event) (next : State C) →
-    OneStep old (Intern q) r now next → ¬ IsRefusal r → (i : ℕ) × (r ≡ reply.Symbol (Some i))
-    × IsIssued key old (form_key q) i next) where
-  same-held : (o : Option ℕ) (held : List Q) (q : Q) (ks : List Key) → ks ≡ map form_key held →
-      cond (is_some o) ks (ks ++ form_key q ∷ []) ≡ map form_key (cond (is_some o) held (held ++ q ∷ []))
-  same-held None held q ks same = rw (same, map-append form_key held (q ∷ [])) refl
-  same-held (Some i) held q ks same = same
-
-  pub InOrder-issue : (old new : State C) (held qs : List Q) (replies : List Reply) (cost : List Event) →
-      map key old.contents ≡ map form_key held
-      → InOrder OneStep old (map Intern qs) replies cost new → All (λ r. ¬ IsRefusal r) replies →
-      replies ≡ map (λ i. reply.Symbol (Some i)) (issue_from form_key held qs)
-  InOrder-issue old new held [] [] cost same run none = refl
-  InOrder-issue old new held (q ∷ qs) (r ∷ replies) cost same run none =
-      let given = one old q r run.1 run.0 run.4 (none 0 r (omega arith)) in
-      let found : first key old.contents (form_key q) ≡ first form_key held (form_key q) = rw same refl in
-      let size : length old.contents ≡ length held = sym (length-map old.contents key) ∙ ap length same
-      ∙ length-map held form_key in
-      let symbol : given.0 ≡ issued form_key held q = given.2.0 ∙ rw (found, size) refl in
-      let after : map key run.0.contents ≡ map form_key (interned form_key held q) =
-      given.2.1
-      ∙ rw found (same-held (first form_key held (form_key q)) held q (map key old.contents) same) in
-      rw (
-        given.1,
-        symbol,
-        InOrder-issue run.0 new (interned form_key held q) qs replies run.2 after run.5 (λ k d lt.
-            none (suc k) d (omega arith)),
-      ) refl
-  InOrder-issue old new held _ _ cost same run none = absurd run
+-- the keys that are held after an interning
+same-held : {Q : Type 0} (form_key : Q → Key) (held : List Q) (q : Q) →
+    cond (is_some (first form_key held (form_key q))) (map form_key held) (map form_key held ++ form_key q ∷ [])
+    ≡ map form_key (interned form_key held q)
+same-held form_key held q = grind (arith, common_steps)
 
 module _ {C Q : Type 0} (key : C → Key) (value_key : Q → Key) (spelling : C → List ℕ) (adds : Q → List C →
     List C → Type 0) (copies : Bool) (one : (q : Q) (a b : List C) → adds q a b →
@@ -73,12 +44,30 @@ module _ {C Q : Type 0} (key : C → Key) (value_key : Q → Key) (spelling : C 
   accepted old new q reply.NoMemory step fine = absurd (fine tt)
   accepted old new q _ step fine = absurd step
 
+  -- internings alone are given the symbols of `issue_from`, which go by the keys alone
+  issues-from : (old new : State C) (held qs : List Q) (replies : List Reply) (cost : List Event) →
+      map key old.contents ≡ map value_key held
+      → RunsValues key value_key spelling adds copies hash old (map Intern qs) replies cost new
+      → All (λ r. ¬ IsRefusal r) replies →
+      replies ≡ map (λ i. reply.Symbol (Some i)) (issue_from value_key held qs)
+  issues-from old new held [] [] cost same run none = refl
+  issues-from old new held (q ∷ qs) (r ∷ replies) cost same run none =
+      let given = accepted old run.0 q r run.4.0 (none 0 r (omega arith)) in
+      let found : first key old.contents (value_key q) ≡ first value_key held (value_key q) = rw same refl in
+      let size : length old.contents ≡ length held =
+      sym (length-map old.contents key) ∙ ap length same ∙ length-map held value_key in
+      let symbol : given.0 ≡ issued value_key held q = given.2.0 ∙ rw (found, size) refl in
+      let after : map key run.0.contents ≡ map value_key (interned value_key held q) =
+      given.2.1 ∙ rw same (same-held value_key held q) in
+      let rest = issues-from run.0 new (interned value_key held q) qs replies run.2 after run.5
+      (λ k d lt. none (suc k) d (omega arith)) in
+      rw (given.1, symbol, rest) refl
+  issues-from old new held _ _ cost same run none = absurd run
+
   -- internings alone, none of which is refused, into an empty table are given the symbols of `issue`
   pub Runs-issue : (old new : State C) (qs : List Q) (replies : List Reply) (cost : List Event) →
       old.contents ≡ [] →
       RunsValues key value_key spelling adds copies hash old (map Intern qs) replies cost new
       → All (λ r. ¬ IsRefusal r) replies → replies ≡ map (λ i. reply.Symbol (Some i)) (issue value_key qs)
   Runs-issue old new qs replies cost empty run none =
-      InOrder-issue key value_key (IsCall key value_key spelling adds copies hash)
-      (λ old q r now next one fine. accepted old next q r one.0 fine) old new [] qs replies cost
-      (rw empty refl) run none
+      issues-from old new [] qs replies cost (rw empty refl) run none

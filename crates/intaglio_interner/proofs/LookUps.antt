@@ -37,7 +37,7 @@ module _ {C Q : Type 0} (key : C → Key) (value_key : Q → Key) (spelling : C 
   look_up-same old new (Get s) r looks step = step.1
   look_up-same old new Len (reply.Count x) looks step = step.1
   look_up-same old new IsEmpty (reply.Bool x) looks step = step.1
-  look_up-same old new _ _ looks step = absurd (search (looks, step))
+  look_up-same old new _ _ looks step = grind (arith, common_steps)
 
   -- and places nothing
   pub look_up-places : (hash : Key → ℕ) (old new : State C) (call : Call Q) (r : Reply) (now : List Event) →
