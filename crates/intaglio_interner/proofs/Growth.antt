@@ -54,25 +54,6 @@ module _ {C : Type 0} (key : C → Key) (hash : Key → ℕ) where
   adding-places old next k now cost =
       simp (cost.parts, placed_count-append) (omega (arith, cost.searches.0.placements))
 
-  added : (old next : State C) (adds : List C → List C → Type 0) (i g : ℕ) (k : Key) (now : List Event) →
-      length next.contents ≡ length old.contents + 1 → IsAdded adds old i next →
-      IsAddingCost key hash old k next now → Holds old g → Goes old next (placed_count now) g
-  added old next adds i g k now size taken cost h =
-      let parts = adding-places old next k now cost in
-      elim (cases_eq next.buckets old.buckets) [
-        | inl same ↦
-            let nothing : placed_count cost.growth ≡ 0 = rw (cost.grows.only_growth same) refl in record {
-              later = g;
-              holds = record { below = λ lt. omega (arith, h.below); twice = omega arith };
-              spent = omega arith;
-            }
-        | inr differ ↦ let again = cost.grows.placements differ in let full = taken.growth differ in record {
-          later = g + length old.contents;
-          holds = record { below = λ lt. omega (arith, h.below); twice = omega (arith, h.below) };
-          spent = omega arith;
-        }
-      ]
-
   pub added-hashes : (o : Option ℕ) (old next : State C) (k : Key) (now : List Event)
       → MatchOption o (IsAddingCost key hash old k next now) (λ _. SearchCost key hash old k now) →
       hashed_keys now ≡ k ∷ []
@@ -89,8 +70,21 @@ module _ {C Q : Type 0} (key : C → Key) (value_key : Q → Key) (spelling : C 
       → MatchOption o (IsAddingCost key hash old (value_key q) next now)
       (λ _. SearchCost key hash old (value_key q) now) → Holds old g → Goes old next (placed_count now) g
   answered None old next q i g now taken cost h =
-      added key hash old next (adds q) i g (value_key q) now
-      (added-length key (adds q) copies (value_key q) (one q) old next i taken) taken cost h
+      let size = added-length key (adds q) copies (value_key q) (one q) old next i taken in
+      let parts = adding-places key hash old next (value_key q) now cost in
+      elim (cases_eq next.buckets old.buckets) [
+        | inl same ↦
+            let nothing : placed_count cost.growth ≡ 0 = rw (cost.grows.only_growth same) refl in record {
+              later = g;
+              holds = record { below = λ lt. omega (arith, h.below); twice = omega arith };
+              spent = omega arith;
+            }
+        | inr differ ↦ let again = cost.grows.placements differ in let full = taken.growth differ in record {
+          later = g + length old.contents;
+          holds = record { below = λ lt. omega (arith, h.below); twice = omega (arith, h.below) };
+          spent = omega arith;
+        }
+      ]
   answered (Some j) old next q i g now found cost h =
       kept (same-kept old next found.1) cost.0.placements h
 

@@ -25,16 +25,20 @@ doubled g i x y z count twice rest =
           let one : changes x y ≡ 1 = rw (ne_eqb y x differ) refl in
           let once : g ≡ suc i = omega (arith, count, one) in
           let more : 2 ^ i * (2 * max 1 x) ≤ 2 ^ i * max 1 y = mul-le-mul_left (2 ^ i) (twice differ) in
-          let power : 2 ^ suc i * max 1 x ≡ 2 ^ i * (2 * max 1 x) = grind (arith, common_steps, pow-suc, mul_assoc) in
+          let power : 2 ^ suc i * max 1 x ≡ 2 ^ i * (2 * max 1 x) =
+          grind (arith, common_steps, pow-suc, mul_assoc) in
           rw once (omega (arith, more, power, rest))
     ]
 
 module _ {C Q : Type 0} (takes : C → ℕ) (needs : Q → ℕ) where
-  -- room for contents that changes at least doubles
-  list-doubles : (old next : Room C) (call : Call Q) → KeepsRoom call → CallGrows takes needs old call next →
-      next.most ≢ old.most → 2 * max 1 old.most ≤ max 1 next.most
-  list-doubles old next ShrinkToFit keep grows differ = absurd keep
-  list-doubles old next _ keep grows differ = grind (arith, common_steps)
+  -- room for contents, or for bytes, that changes at least doubles
+  doubles : (old next : Room C) (call : Call Q) → KeepsRoom call → CallGrows takes needs old call next →
+      (next.most ≢ old.most → 2 * max 1 old.most ≤ max 1 next.most)
+      × (bytes_of takes next ≢ bytes_of takes old
+      → 2 * max 1 (bytes_of takes old) ≤ max 1 (bytes_of takes next))
+  doubles old next ShrinkToFit keep grows = absurd keep
+  doubles old next _ keep grows =
+      (λ differ. grind (arith, common_steps), λ differ. grind (arith, common_steps))
 
   -- a growth for an interning makes room for at most twice as many contents as there are, or for 4
   list-within : (old next : Room C) (call : Call Q) → KeepsContents call →
@@ -42,13 +46,6 @@ module _ {C Q : Type 0} (takes : C → ℕ) (needs : Q → ℕ) where
       next.most ≤ max 4 (2 * length old.state.contents)
   list-within old next ShrinkToFit keep grows differ = absurd keep
   list-within old next _ keep grows differ = grind (arith, common_steps)
-
-  -- room for bytes that changes at least doubles
-  bytes-double : (old next : Room C) (call : Call Q) → KeepsRoom call → CallGrows takes needs old call next →
-      bytes_of takes next ≢ bytes_of takes old
-      → 2 * max 1 (bytes_of takes old) ≤ max 1 (bytes_of takes next)
-  bytes-double old next ShrinkToFit keep grows differ = absurd keep
-  bytes-double old next _ keep grows differ = grind (arith, common_steps)
 
   module _ (IsStep : State C → Call Q → Reply → State C → Type 0) where
     -- the room for contents, and that for bytes, doubled as often as it changed
@@ -61,11 +58,8 @@ module _ {C Q : Type 0} (takes : C → ℕ) (needs : Q → ℕ) where
     all-growths old (call ∷ calls) (r ∷ replies) g h new keep run =
         let rest =
         all-growths run.0 calls replies run.1 run.2 new (λ k d lt. keep (suc k) d (omega arith)) run.7 in
-        let here = keep 0 call (omega arith) in (
-          doubled g run.1 old.most run.0.most new.most run.3 (list-doubles old run.0 call here run.6) rest.0,
-          doubled h run.2 (bytes_of takes old) (bytes_of takes run.0) (bytes_of takes new) run.4
-              (bytes-double old run.0 call here run.6) rest.1,
-        )
+        let twice = doubles old run.0 call (keep 0 call (omega arith)) run.6 in
+        (doubled g run.1 _ _ _ run.3 twice.0 rest.0, doubled h run.2 _ _ _ run.4 twice.1 rest.1)
     all-growths old _ _ g h new keep run = absurd run
 
     -- one call more
@@ -75,16 +69,8 @@ module _ {C Q : Type 0} (takes : C → ℕ) (needs : Q → ℕ) where
         CallGrows takes needs mid call new
         → RunsGrowing takes needs IsStep old (calls ++ call ∷ []) (replies ++ r ∷ [])
         (g + changes mid.most new.most) (h + changes (bytes_of takes mid) (bytes_of takes new)) new
-    growing-push old [] [] g h mid call r new run step grows = (
-      new,
-      0,
-      0,
-      rw (run.0, run.2) (omega arith),
-      rw (run.1, run.2) (omega arith),
-      rw (← run.2) step,
-      rw (← run.2) grows,
-      (refl, refl, refl),
-    )
+    growing-push old [] [] g h mid call r new run step grows = rw (run.0, run.1, run.2)
+        (new, 0, 0, omega arith, omega arith, rw (← run.2) step, rw (← run.2) grows, (refl, refl, refl))
     growing-push old (x ∷ calls) (y ∷ replies) g h mid call r new run step grows = (
       run.0,
       run.1 + changes mid.most new.most,

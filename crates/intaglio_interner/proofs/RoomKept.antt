@@ -13,7 +13,7 @@ use Rattle.intaglio_interner.specs.declared.runs.Call.TheVariants.{Intern, Clear
 use Rattle.intaglio_interner.specs.declared.runs.Reply.{Reply}
 use Rattle.intaglio_interner.specs.declared.runs.Reply.TheVariants as reply
 use Rattle.intaglio_interner.proofs.LookUps.{look_up-same, interns-as}
-use Rattle.intaglio_interner.proofs.Room.{interns-roomier}
+use Rattle.intaglio_interner.proofs.Room.{interns-sizes}
 
 module _ {C Q : Type 0} (key : C → Key) (value_key : Q → Key) (spelling : C → List ℕ) (adds : Q → List C →
     List C → Type 0) (copies : Bool) (one : (q : Q) (a b : List C) → adds q a b →
@@ -22,7 +22,7 @@ module _ {C Q : Type 0} (key : C → Key) (value_key : Q → Key) (spelling : C 
       Step key value_key spelling adds copies old call r next → HasNoLessRoom old next
   call-roomier old next (Intern q) r keep made = let interns =
       interns-as key value_key spelling adds copies old next q r made in
-      interns-roomier key (adds q) copies (value_key q) (one q) old next interns.0 interns.1
+      (interns-sizes key (adds q) copies (value_key q) (one q) old next interns.0 interns.1).0
   call-roomier old next (Reserve n) reply.Done keep made =
       elim (cases_lt old.spare n) [
         | inl missing ↦ omega (arith, ap length made.contents, made.spare)
