@@ -1,21 +1,8 @@
 -- What a run replies and leaves follows from its calls, the contents before it and the
 -- limit, if it isn't refused memory.
-use Rattle.std.proofs.Common.{◌≡◌, ◌≢◌, ◌∙◌, sym, ap, refl, arith, ℕ, suc, ◌+◌, false, cond, ltb, List, [], ◌∷◌, ◌++◌, length, map, take, Option, Some, None, option_map, is_some, MatchOption, Result, Ok}
-use Rattle.std.specs.Prelude.{slice_get, nat_lt, nat_eq}
-use Rattle.std.proofs.lemmas.Bool.{lt-ltb, le-ltb}
-use Rattle.intaglio_content.specs.Key.{Key}
-use Rattle.intaglio_content.specs.Store.{IsMoved}
-use Rattle.intaglio_content.specs.Work.{Event}
-use Rattle.intaglio_interner.specs.State.{State, first}
-use Rattle.intaglio_interner.specs.Change.{IsAppended}
-use Rattle.intaglio_interner.specs.Step.{Step, found}
-use Rattle.intaglio_interner.specs.Run.{Runs}
+use Rattle.intaglio_interner.proofs.Names.{◌≡◌, ◌≢◌, ◌∙◌, sym, ap, refl, arith, ℕ, suc, ◌+◌, false, cond, ltb, List, [], ◌∷◌, ◌++◌, length, map, take, Option, Some, None, option_map, is_some, MatchOption, Result, Ok, slice_get, nat_lt, nat_eq, lt-ltb, le-ltb, Key, IsMoved, Event, State, first, IsAppended, Step, found, Runs, Call, Intern, Check, GetInterned, IsInterned, Contains, Get, Len, IsEmpty, Clear, Reserve, ShrinkTo, ShrinkToFit, TakeBack, Reply, InternError}
 use Rattle.intaglio_interner.specs.Alike.{Seen, symbol, pair, bool, spelling, count, done, overflow, capacity_overflow, stale, seen, HasMemory, AreAlike}
-use Rattle.intaglio_interner.specs.declared.runs.Call.{Call}
-use Rattle.intaglio_interner.specs.declared.runs.Call.TheVariants.{Intern, Check, GetInterned, IsInterned, Contains, Get, Len, IsEmpty, Clear, Reserve, ShrinkTo, ShrinkToFit, TakeBack}
-use Rattle.intaglio_interner.specs.declared.runs.Reply.{Reply}
 use Rattle.intaglio_interner.specs.declared.runs.Reply.TheVariants as reply
-use Rattle.intaglio_symbol.specs.declared.error.InternError.{InternError}
 
 -- what an interning says and leaves, by the place where its key is first
 abbrev interning_says : Option ℕ → ℕ → ℕ → Seen

@@ -1,25 +1,10 @@
 -- What a run hashes, and what interns alone place.
-use Rattle.std.proofs.lemmas.Grind.{common_steps}
-use Rattle.std.proofs.Common.{◌≡◌, ◌≢◌, ℕ, suc, ◌+◌, ◌*◌, ◌<◌, ◌≤◌, Bool, true, false, List, [], ◌∷◌, ◌++◌, length, map, All, Option, Some, None, Ok, Err, Result, alloc_error, MatchOption, inl, inr, refl, ap, arith}
-use Rattle.std.proofs.lemmas.Bool.{cases_eq}
-use Rattle.std.proofs.lemmas.List.Elements.{All-cons}
-use Rattle.intaglio_content.specs.Key.{Key}
-use Rattle.intaglio_content.specs.Store.{IsAddedOne}
-use Rattle.intaglio_content.specs.Work.{Event, placed}
-use Rattle.intaglio_interner.specs.State.{State, first}
-use Rattle.intaglio_interner.specs.Change.{IsAdded, IsRefused}
-use Rattle.intaglio_interner.specs.Cost.{hashed_keys, placed_count, SearchCost, IsAddingCost}
-use Rattle.intaglio_interner.specs.Step.{Step, StepCost}
-use Rattle.intaglio_interner.specs.Run.{RunsValues, KeepsContents, HonoursRoom, searched_keys}
+use Rattle.intaglio_interner.proofs.Names.{common_steps, ◌≡◌, ◌≢◌, ℕ, suc, ◌+◌, ◌*◌, ◌<◌, ◌≤◌, Bool, true, false, List, [], ◌∷◌, ◌++◌, length, map, All, Option, Some, None, Ok, Err, Result, alloc_error, MatchOption, inl, inr, refl, ap, arith, cases_eq, All-cons, Key, IsAddedOne, Event, placed, State, first, IsAdded, IsRefused, hashed_keys, placed_count, SearchCost, IsAddingCost, Step, StepCost, RunsValues, KeepsContents, HonoursRoom, searched_keys, InternError, Call, Intern, Reply}
 use Rattle.intaglio_interner.proofs.InOrder.{hashed_keys-append}
 use Rattle.intaglio_interner.proofs.Room.{IsKept, same-kept, fails-kept, added-length}
 use Rattle.intaglio_interner.proofs.LookUps.{look_up-same, look_up-places}
 use Rattle.intaglio_interner.proofs.Bytes.{intern-spare}
 use Rattle.intaglio_symbol.specs.declared.error.InternError.TheVariants as error
-use Rattle.intaglio_symbol.specs.declared.error.InternError.{InternError}
-use Rattle.intaglio_interner.specs.declared.runs.Call.{Call}
-use Rattle.intaglio_interner.specs.declared.runs.Call.TheVariants.{Intern}
-use Rattle.intaglio_interner.specs.declared.runs.Reply.{Reply}
 use Rattle.intaglio_interner.specs.declared.runs.Reply.TheVariants as reply
 
 -- the number of placements in events and others behind them is the sum of the numbers in both

@@ -1,19 +1,8 @@
 -- How often the memory of a table's contents grows.
-use Rattle.std.proofs.lemmas.Grind.{common_steps}
-use Rattle.std.proofs.Common.{◌≡◌, ◌≢◌, ℕ, suc, ◌+◌, ◌*◌, ◌^◌, ◌≤◌, max, Bool, List, [], ◌∷◌, ◌++◌, length, All, inl, inr, refl, ap, arith}
-use Rattle.std.proofs.lemmas.Bool.{cases_eq, ne_eqb}
+use Rattle.intaglio_interner.proofs.Names.{common_steps, ◌≡◌, ◌≢◌, ℕ, suc, ◌+◌, ◌*◌, ◌^◌, ◌≤◌, max, Bool, List, [], ◌∷◌, ◌++◌, length, All, inl, inr, refl, ap, arith, cases_eq, ne_eqb, Key, IsAddedOne, State, Step, KeepsContents, KeepsRoom, Room, changes, bytes_of, CallGrows, RunsGrowing, Call, Intern, ShrinkToFit, Reply}
 use Rattle.std.proofs.Math.Nat.{mul-le-mul_left, mul_assoc, pow-suc}
-use Rattle.intaglio_content.specs.Key.{Key}
-use Rattle.intaglio_content.specs.Store.{IsAddedOne}
-use Rattle.intaglio_interner.specs.State.{State}
-use Rattle.intaglio_interner.specs.Step.{Step}
-use Rattle.intaglio_interner.specs.Run.{KeepsContents, KeepsRoom}
 use Rattle.intaglio_interner.proofs.Room.{added-length}
 use Rattle.intaglio_interner.proofs.LookUps.{look_up-same, intern-either}
-use Rattle.intaglio_interner.specs.Growths.{Room, changes, bytes_of, CallGrows, RunsGrowing}
-use Rattle.intaglio_interner.specs.declared.runs.Call.{Call}
-use Rattle.intaglio_interner.specs.declared.runs.Call.TheVariants.{Intern, ShrinkToFit}
-use Rattle.intaglio_interner.specs.declared.runs.Reply.{Reply}
 
 -- a number that at least doubles where it changes, and then doubles so often
 doubled : (g i x y z : ℕ) → g ≡ changes x y + i → (y ≢ x → 2 * max 1 x ≤ max 1 y) →

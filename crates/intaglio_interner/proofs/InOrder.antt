@@ -1,8 +1,5 @@
 -- Steps in order with their costs, and one step more.
-use Rattle.std.proofs.Common.{◌≡◌, List, [], ◌∷◌, ◌++◌, append_assoc, append-nil, refl, sym, ap}
-use Rattle.intaglio_content.specs.Key.{Key}
-use Rattle.intaglio_content.specs.Work.{Event, hashed}
-use Rattle.intaglio_interner.specs.Cost.{Adds, InOrder, hashed_keys}
+use Rattle.intaglio_interner.proofs.Names.{◌≡◌, List, [], ◌∷◌, ◌++◌, append_assoc, append-nil, refl, sym, ap, Key, Event, hashed, Adds, InOrder, hashed_keys}
 
 -- the keys hashed by events and others behind them are those of the first, and then those of the others
 pub hashed_keys-append : (a b : List Event) → hashed_keys (a ++ b) ≡ hashed_keys a ++ hashed_keys b

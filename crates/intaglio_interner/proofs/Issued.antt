@@ -1,16 +1,5 @@
 -- Interns alone, none refused, are given the symbols of `issue_from`.
-use Rattle.std.proofs.lemmas.Grind.{common_steps}
-use Rattle.std.proofs.lemmas.List.{length-map}
-use Rattle.std.proofs.Common.{◌≡◌, ◌∙◌, sym, ℕ, suc, arith, Bool, List, [], ◌∷◌, ◌++◌, length, map, Some, unwrap_or, is_some, cond, All, refl, ap}
-use Rattle.intaglio_content.specs.Key.{Key}
-use Rattle.intaglio_content.specs.Store.{IsAddedOne}
-use Rattle.intaglio_content.specs.Work.{Event}
-use Rattle.intaglio_interner.specs.State.{State, first}
-use Rattle.intaglio_interner.specs.Issue.{issued, interned, issue_from, issue}
-use Rattle.intaglio_interner.specs.Step.{Step}
-use Rattle.intaglio_interner.specs.Run.{RunsValues, IsRefusal}
-use Rattle.intaglio_interner.specs.declared.runs.Call.TheVariants.{Intern}
-use Rattle.intaglio_interner.specs.declared.runs.Reply.{Reply}
+use Rattle.intaglio_interner.proofs.Names.{common_steps, length-map, ◌≡◌, ◌∙◌, sym, ℕ, suc, arith, Bool, List, [], ◌∷◌, ◌++◌, length, map, Some, unwrap_or, is_some, cond, All, refl, ap, Key, IsAddedOne, Event, State, first, issued, interned, issue_from, issue, Step, RunsValues, IsRefusal, Intern, Reply}
 use Rattle.intaglio_interner.specs.declared.runs.Reply.TheVariants as reply
 use Rattle.intaglio_interner.proofs.Issue.{added-as, shows-key}
 

@@ -1,18 +1,7 @@
 -- Look-ups leave a table as it is, and internings keep its contents or add one.
-use Rattle.std.proofs.lemmas.Grind.{common_steps}
-use Rattle.std.proofs.Common.{arith, ◌≡◌, ◌⊎◌, ℕ, Bool, List, Some, Ok, Err, Result, alloc_error}
-use Rattle.intaglio_content.specs.Key.{Key}
-use Rattle.intaglio_content.specs.Work.{Event}
-use Rattle.intaglio_interner.specs.State.{State}
-use Rattle.intaglio_interner.specs.Change.{IsAdded, InternsValue}
-use Rattle.intaglio_interner.specs.Cost.{placed_count}
+use Rattle.intaglio_interner.proofs.Names.{common_steps, arith, ◌≡◌, ◌⊎◌, ℕ, Bool, List, Some, Ok, Err, Result, alloc_error, Key, Event, State, IsAdded, InternsValue, placed_count, Step, StepCost, InternError, Call, Intern, Check, GetInterned, IsInterned, Contains, Get, Len, IsEmpty, Reply}
 use Rattle.intaglio_interner.proofs.Room.{IsKept, interns-either}
-use Rattle.intaglio_interner.specs.Step.{Step, StepCost}
-use Rattle.intaglio_symbol.specs.declared.error.InternError.{InternError}
 use Rattle.intaglio_symbol.specs.declared.error.InternError.TheVariants as intern_error
-use Rattle.intaglio_interner.specs.declared.runs.Call.{Call}
-use Rattle.intaglio_interner.specs.declared.runs.Call.TheVariants.{Intern, Check, GetInterned, IsInterned, Contains, Get, Len, IsEmpty}
-use Rattle.intaglio_interner.specs.declared.runs.Reply.{Reply}
 use Rattle.intaglio_interner.specs.declared.runs.Reply.TheVariants as reply
 
 -- a call that looks up a key or a symbol, or asks how many contents there are

@@ -1,16 +1,5 @@
 -- Room that was there stays, but for calls that shrink.
-use Rattle.std.proofs.Common.{ℕ, suc, Bool, List, [], ◌∷◌, length, All, inl, inr, ap, arith}
-use Rattle.std.proofs.lemmas.Bool.{cases_lt}
-use Rattle.intaglio_content.specs.Key.{Key}
-use Rattle.intaglio_content.specs.Store.{IsAddedOne}
-use Rattle.intaglio_content.specs.Work.{Event}
-use Rattle.intaglio_interner.specs.State.{State}
-use Rattle.intaglio_interner.specs.Change.{HasNoLessRoom}
-use Rattle.intaglio_interner.specs.Step.{Step}
-use Rattle.intaglio_interner.specs.Run.{RunsValues, KeepsRoom}
-use Rattle.intaglio_interner.specs.declared.runs.Call.{Call}
-use Rattle.intaglio_interner.specs.declared.runs.Call.TheVariants.{Intern, Clear, Reserve, TakeBack}
-use Rattle.intaglio_interner.specs.declared.runs.Reply.{Reply}
+use Rattle.intaglio_interner.proofs.Names.{ℕ, suc, Bool, List, [], ◌∷◌, length, All, inl, inr, ap, arith, cases_lt, Key, IsAddedOne, Event, State, HasNoLessRoom, Step, RunsValues, KeepsRoom, Call, Intern, Clear, Reserve, TakeBack, Reply}
 use Rattle.intaglio_interner.specs.declared.runs.Reply.TheVariants as reply
 use Rattle.intaglio_interner.proofs.LookUps.{look_up-same, interns-as}
 use Rattle.intaglio_interner.proofs.Room.{interns-sizes}

@@ -1,11 +1,7 @@
-use Rattle.std.proofs.Common.{◌≡◌, ◌∙◌, [], arith, append_assoc, append-nil, refl, sym, rules}
-use Rattle.std.specs.Vec.Iter.{into_iter_items}
-use Rattle.std.proofs.lemmas.List.Elements.{All-nil}
-use Rattle.std.proofs.lemmas.Grind.{common_steps}
+use Rattle.intaglio_interner.proofs.Names.{◌≡◌, ◌∙◌, [], arith, append_assoc, append-nil, refl, sym, rules, into_iter_items, All-nil, common_steps, KeepsRoom}
 use Rattle.intaglio_interner.proofs.Growth.{Runs-hash, Runs-place, Runs-room}
 use Rattle.intaglio_interner.proofs.Issued.{Runs-issue}
 use Rattle.intaglio_interner.proofs.RoomKept.{Runs-roomier}
-use Rattle.intaglio_interner.specs.Run.{KeepsRoom}
 use Rattle.intaglio_interner.proofs.Bytes.{All-next, StillRoom-next}
 use Rattle.intaglio_interner.proofs.InOrder.{Adds-push}
 use Rattle.intaglio_interner.proofs.Growths.{growing-push, all-growths, call-size, few-growths}

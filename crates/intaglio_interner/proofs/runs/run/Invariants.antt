@@ -1,9 +1,4 @@
-use Rattle.std.proofs.Common.{◌≡◌, ℕ, ◌++◌, ◌+◌, ◌≤◌, vec_len, vec_capacity}
-use Rattle.std.specs.Vec.Iter.{into_iter_items, into_iter_len}
-use Rattle.intaglio_interner.specs.Cost.{Adds}
-use Rattle.intaglio_interner.specs.Run.{RunsValues, HoldsBytes}
-use Rattle.intaglio_interner.specs.Step.{Step}
-use Rattle.intaglio_interner.specs.Growths.{room, RunsGrowing}
+use Rattle.intaglio_interner.proofs.Names.{◌≡◌, ℕ, ◌++◌, ◌+◌, ◌≤◌, vec_len, vec_capacity, into_iter_items, into_iter_len, Adds, RunsValues, HoldsBytes, Step, room, RunsGrowing}
 use Rattle.intaglio_interner.proofs.Bytes.{StillRoom}
 use Rattle.intaglio_interner.proofs.runs.run.Given as goal
 

@@ -1,6 +1,4 @@
-use Rattle.std.proofs.lemmas.Grind.{common_steps}
-use Rattle.std.proofs.Common.{ℕ, ◌<◌, ◌≤◌, arith, ◌∙◌}
-use Rattle.intaglio_interner.specs.Batch.{AreHashed}
+use Rattle.intaglio_interner.proofs.Names.{common_steps, ℕ, ◌<◌, ◌≤◌, arith, ◌∙◌, AreHashed}
 use Rattle.intaglio_interner.proofs.Groups.{hashed-first}
 use Rattle.intaglio_interner.proofs.batch.ahead.next_of_group.Goals.{then-ahead-eq0, else-ahead-eq0}
 use Rattle.intaglio_interner.proofs.batch.ahead.next_of_group.Goals as goal
