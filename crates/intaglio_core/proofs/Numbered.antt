@@ -1,20 +1,7 @@
 -- A search that compares the contents with one hash, by their numbers.
-use Rattle.std.proofs.lemmas.Grind.{common_steps}
-use Rattle.std.proofs.Common.{◌≡◌, ◌≢◌, ℕ, zero, suc, ◌+◌, ◌%◌, ◌<◌, ◌≤◌, ◌==◌, ◌&&◌, Bool, true, false, cond, List, [], ◌∷◌, ◌++◌, replicate, length, map, filter, get_or, Some, None, refl, sym, ap, ◌∙◌, subst, arith, append_assoc, append-nil, length-append, inl, inr}
-use Rattle.std.specs.List.{All, AllPairs, Contains}
+use Rattle.intaglio_core.proofs.Names.{common_steps, ◌≡◌, ◌≢◌, ℕ, zero, suc, ◌+◌, ◌%◌, ◌<◌, ◌≤◌, ◌==◌, Bool, true, false, cond, List, [], ◌∷◌, ◌++◌, replicate, length, map, filter, get_or, Some, None, refl, sym, ap, ◌∙◌, subst, arith, append_assoc, append-nil, length-append, inl, inr, All, AllPairs, Contains, cases_lt, eq-eqb, get_or-map, get_or_default, length-map, map-append, get_or_append_left, get_or-append_seam, All-append, All-cons, All-contains, All-map, All-nil, Contains-append_right, IsDistinct-from_AllPairs, is_member-Decides, length-le_from_is_member, Key, IsCompared, Event, hashed, compared, step, first_of, key_eq, AreDistinct, hashed_keys, sought_keys, stored_keys, step_count, placed_count, bucket_keys, IsSearchCost, IsRecorded, Adds, first-none, first-some, key_eq-decides}
 use Rattle.std.specs.Cmp.{IsEquivalence}
 use Rattle.std.specs.Cmp.Lexicographic.{lists_equiv, nat_list_eq_equiv}
-use Rattle.std.proofs.lemmas.Bool.{cases_lt, eq-eqb}
-use Rattle.std.proofs.lemmas.List.{get_or-map, get_or_default, length-map, map-append, get_or_append_left}
-use Rattle.std.proofs.Math.Seq.{get_or-append_seam}
-use Rattle.std.proofs.lemmas.List.Elements.{All-append, All-cons, All-contains, All-map, All-nil, Contains-append_right}
-use Rattle.std.proofs.lemmas.Map.Made.{IsDistinct-from_AllPairs, is_member-Decides, length-le_from_is_member}
-use Rattle.intaglio_content.specs.Key.{Key}
-use Rattle.intaglio_content.specs.Store.{IsCompared}
-use Rattle.intaglio_content.specs.Work.{Event, hashed, compared, step}
-use Rattle.intaglio_interner.specs.State.{first_of, key_eq, AreDistinct}
-use Rattle.intaglio_interner.specs.Cost.{hashed_keys, sought_keys, stored_keys, step_count, placed_count, bucket_keys, IsSearchCost, IsRecorded, Adds}
-use Rattle.intaglio_interner.proofs.First.{first-none, first-some, key_eq-decides}
 
 -- what a list contains is still in it when an item is put in front, or none is
 contains-by : {X : Type 0} (b : Bool) (x y : X) (xs : List X) → Contains xs y →

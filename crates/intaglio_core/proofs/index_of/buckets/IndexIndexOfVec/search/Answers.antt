@@ -1,5 +1,4 @@
-use Rattle.std.proofs.lemmas.Grind.{common_steps}
-use Rattle.std.proofs.Common.{◌≡◌, None, Option, Some, slice_get, arith, rules}
+use Rattle.intaglio_core.proofs.Names.{common_steps, ◌≡◌, None, Option, Some, slice_get, arith, rules}
 use Rattle.std.specs.Option.{IfSome}
 use Rattle.intaglio_core.proofs.Walking.{passes, begins, within, ends, finds, goes_on, falls}
 use Rattle.intaglio_core.proofs.index_of.buckets.IndexIndexOfVec.search.Goals as goal

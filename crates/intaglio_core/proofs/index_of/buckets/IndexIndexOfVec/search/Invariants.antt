@@ -1,7 +1,5 @@
-use Rattle.std.proofs.Common.{ℕ, length}
-use Rattle.intaglio_content.specs.Key.{Key}
+use Rattle.intaglio_core.proofs.Names.{ℕ, length, Key, AreHashed}
 use Rattle.intaglio_core.proofs.Walking.{IsWalking, rest_at}
-use Rattle.intaglio_core.specs.IndexOf.{AreHashed}
 use Rattle.intaglio_core.proofs.index_of.buckets.IndexIndexOfVec.search.Given as goal
 
 abbrev pub invariant-loop-candidate : goal.invariant-loop-candidate
