@@ -1,5 +1,6 @@
 -- The room for bytes over a run.
-use Rattle.intaglio_interner.proofs.Names.{◌≡◌, ◌≢◌, ℕ, ◌+◌, ◌<◌, ◌≤◌, List, [], ◌∷◌, ◌++◌, length, map, All, Bool, inl, inr, sym, ap, ◌∙◌, arith, length-append, sum_by, All-push, Key, State, Step, UsesRoom, Call, Intern, Reply}
+use Rattle.std.proofs.lemmas.Grind.{common_steps}
+use Rattle.intaglio_interner.proofs.Names.{◌≡◌, ◌≢◌, ℕ, ◌+◌, ◌<◌, ◌≤◌, List, [], ◌∷◌, ◌++◌, length, map, All, Bool, sym, ap, ◌∙◌, arith, length-append, sum_by, All-push, Key, State, Step, UsesRoom, Call, Intern, Reply}
 use Rattle.std.proofs.Math.Seq.{get_or-append_seam}
 use Rattle.std.proofs.lemmas.List.Sums.{sum_by-cons}
 use Rattle.intaglio_interner.proofs.LookUps.{intern-either}
@@ -28,10 +29,7 @@ module _ {C Q : Type 0} (key : C → Key) (value_key : Q → Key) (spelling : C 
       Step key value_key spelling adds copies old (Intern q) r next → 0 < old.spare →
       old.spare ≤ next.spare + 1
   intern-spare old next q r step some =
-      elim (intern-either key value_key spelling adds copies old next q r step) [
-        | inl kept ↦ omega (arith, kept.spare)
-        | inr added ↦ (added.1.spare some).0
-      ]
+      grind (arith, common_steps, intern-either key value_key spelling adds copies old next q r step)
 
   -- one more of them
   pub StillRoom-next : (needs : Q → ℕ) (in_store : Type 0) (left : List Q) (mid next : State C)

@@ -90,7 +90,8 @@ module _ {C Q : Type 0} (key : C → Key) (value_key : Q → Key) (spelling : C 
       kept (same-kept old next (look_up-same key value_key spelling adds copies old next call r keep made))
       (look_up-places key value_key spelling adds copies hash old next call r now keep cost) h
 
-  places : (old new : State C) (calls : List (Call Q)) (replies : List Reply) (cost : List Event) (g : ℕ) →
+  -- placements and contents before are at most three times the contents after
+  pub places : (old new : State C) (calls : List (Call Q)) (replies : List Reply) (cost : List Event) (g : ℕ) →
       All KeepsContents calls → Holds old g →
       RunsValues key value_key spelling adds copies hash old calls replies cost new
       → g + placed_count cost + length old.contents ≤ 3 * length new.contents
@@ -101,14 +102,6 @@ module _ {C Q : Type 0} (key : C → Key) (value_key : Q → Key) (spelling : C 
       one.holds run.5 in
       rw (run.3, placed_count-append run.1 run.2) (omega (arith, one.spent, rest))
   places old new _ _ cost g all h run = absurd run
-
-  -- placements and contents before are at most three times the contents after
-  pub Runs-place : (old new : State C) (calls : List (Call Q)) (replies : List Reply) (cost : List Event) →
-      All KeepsContents calls → RunsValues key value_key spelling adds copies hash old calls replies cost new
-      → placed_count cost + length old.contents ≤ 3 * length new.contents
-  Runs-place old new calls replies cost keep run =
-      let few : Holds old 0 = record { below = λ lt. omega arith; twice = omega arith } in
-      omega (arith, places old new calls replies cost 0 keep few run)
 
   -- a call hashes the key that it looks for
   step-hashes : (old next : State C) (call : Call Q) (r : Reply) (now : List Event) (calls : List (Call Q)) →

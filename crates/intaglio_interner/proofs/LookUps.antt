@@ -1,19 +1,13 @@
 -- Look-ups leave a table as it is, and internings keep its contents or add one.
-use Rattle.intaglio_interner.proofs.Names.{common_steps, arith, ◌≡◌, ◌⊎◌, ℕ, Bool, List, Some, Ok, Err, Result, alloc_error, Key, Event, State, IsAdded, InternsValue, placed_count, Step, StepCost, InternError, Call, Intern, Check, GetInterned, IsInterned, Contains, Get, Len, IsEmpty, Reply}
+use Rattle.intaglio_interner.proofs.Names.{KeepsContents, common_steps, arith, ◌≡◌, ◌⊎◌, ℕ, Bool, List, Some, Ok, Err, Result, alloc_error, Key, Event, State, IsAdded, InternsValue, placed_count, Step, StepCost, InternError, Call, Intern, Check, GetInterned, IsInterned, Contains, Get, Len, IsEmpty, Reply}
 use Rattle.intaglio_interner.proofs.Room.{IsKept, interns-either}
 use Rattle.intaglio_symbol.specs.declared.error.InternError.TheVariants as intern_error
 use Rattle.intaglio_interner.specs.declared.runs.Reply.TheVariants as reply
 
 -- a call that looks up a key or a symbol, or asks how many contents there are
 abbrev pub LooksUp : {Q : Type 0} → Call Q → Type 0
-LooksUp (Check _) = Unit {0}
-LooksUp (GetInterned _) = Unit {0}
-LooksUp (IsInterned _) = Unit {0}
-LooksUp (Contains _) = Unit {0}
-LooksUp (Get _) = Unit {0}
-LooksUp Len = Unit {0}
-LooksUp IsEmpty = Unit {0}
-LooksUp _ = ⊥
+LooksUp (Intern _) = ⊥
+LooksUp call = KeepsContents call
 
 module _ {C Q : Type 0} (key : C → Key) (value_key : Q → Key) (spelling : C → List ℕ) (adds : Q → List C →
     List C → Type 0) (copies : Bool) where

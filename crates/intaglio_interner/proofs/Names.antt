@@ -16,7 +16,7 @@ pub use Rattle.intaglio_interner.specs.declared.runs.Call.{Call}
 pub use Rattle.intaglio_interner.specs.declared.runs.Call.TheVariants.{Check, Clear, Contains, Get, GetInterned, Intern, IsEmpty, IsInterned, Len, Reserve, ShrinkTo, ShrinkToFit, TakeBack}
 pub use Rattle.intaglio_interner.specs.declared.runs.Reply.{Reply}
 pub use Rattle.intaglio_symbol.specs.declared.error.InternError.{InternError}
-pub use Rattle.std.proofs.Common.{All, Bool, Err, IfErr, IfOk, IfSome, List, MatchOption, None, Ok, OnOk, Option, Result, Some, [], alloc_error, ap, append-nil, append_assoc, arith, cond, drop, drop-cons, false, get_or, inl, inr, is_err, is_some, length, length-append, length-drop, ltb, map, max, option_copied, option_map, refl, rules, suc, sym, take, true, unwrap_or, vec_capacity, vec_len, zero, ℕ, ◌*◌, ◌++◌, ◌+◌, ◌-◌, ◌<◌, ◌^◌, ◌∙◌, ◌∷◌, ◌≡◌, ◌≢◌, ◌≤◌, ◌⊎◌}
+pub use Rattle.std.proofs.Common.{add-one, All, Bool, Err, IfErr, IfOk, IfSome, List, MatchOption, None, Ok, OnOk, Option, Result, Some, [], alloc_error, ap, append-nil, append_assoc, arith, cond, drop, drop-cons, false, get_or, inl, inr, is_err, is_some, length, length-append, length-drop, ltb, map, max, option_copied, option_map, refl, rules, suc, sym, take, true, unwrap_or, vec_capacity, vec_len, zero, ℕ, ◌*◌, ◌++◌, ◌+◌, ◌-◌, ◌<◌, ◌^◌, ◌∙◌, ◌∷◌, ◌≡◌, ◌≢◌, ◌≤◌, ◌⊎◌}
 pub use Rattle.std.proofs.lemmas.Bool.{cases_eq, cases_lt, false_from_ne_true, false≢true, le-ltb, lt-ltb, ne_eqb}
 pub use Rattle.std.proofs.lemmas.Grind.{common_steps}
 pub use Rattle.std.proofs.lemmas.List.{length-map, length-take, length-take-le, map-append, take-append-drop, take_all, take_more}

@@ -1,5 +1,5 @@
 use Rattle.intaglio_interner.proofs.Names.{◌≡◌, ◌∙◌, [], arith, append_assoc, append-nil, refl, sym, rules, into_iter_items, All-nil, common_steps, KeepsRoom}
-use Rattle.intaglio_interner.proofs.Growth.{Runs-hash, Runs-place, Runs-room}
+use Rattle.intaglio_interner.proofs.Growth.{Runs-hash, places, Runs-room}
 use Rattle.intaglio_interner.proofs.Issued.{Runs-issue}
 use Rattle.intaglio_interner.proofs.RoomKept.{Runs-roomier}
 use Rattle.intaglio_interner.proofs.Bytes.{All-next, StillRoom-next}
@@ -33,12 +33,10 @@ loop-call-preserved g c = record {
       (Adds-push _ _ _ _ _ _ _ _ _ _ _ c.loop-call.invariant.ran (let spent =
       rw c.loop-call.invariant.same_hash at c.step.ensures.cost in
       (spent.0, spent.1, (c.step.ensures.step, spent.2, c.step.ensures.valid))));
-  growths = (
-    _,
-    _,
-    rw (← c.push_reserved.ensures.items) at (growing-push _ _ _ _ _ _ _ _ _ _ c.step.result _ c.loop-call.invariant.growths.2
-        c.step.ensures.step c.step.ensures.grows),
-  );
+  growths =
+      let pushed = growing-push _ _ _ _ _ _ _ _ _ _ c.step.result _ c.loop-call.invariant.growths.2
+      c.step.ensures.step c.step.ensures.grows in
+      (_, _, rw (← c.push_reserved.ensures.items) at pushed);
   same_hash = c.step.ensures.same_hash ∙ c.loop-call.invariant.same_hash;
   whole = rw (append_assoc, ← c.in-Some.ensures.steps.0) c.loop-call.invariant.whole;
   room = omega (arith, c.in-Some.ensures.steps);
@@ -68,7 +66,15 @@ returns g c =
       issues = λ cs empty interns none.
           Runs-issue _ _ _ _ _ one _ _ _ cs _ _ empty (rw interns at ran.2) none;
       hashes = (ran.0, ran.1, Runs-hash _ _ _ _ _ one _ _ _ _ _ _ ran.2);
-      growth = (ran.0, ran.1, λ keep. Runs-place _ _ _ _ _ one _ _ _ _ _ _ keep ran.2);
+      growth = (
+        ran.0,
+        ran.1,
+        λ keep. omega (
+          arith,
+          places _ _ _ _ _ one _ _ _ _ _ _ 0 keep
+              (record { below = λ lt. omega arith; twice = omega arith }) ran.2,
+        ),
+      );
       capacity = λ keep. Runs-roomier _ _ _ _ _ one _ _ _ _ _ _ keep ran.2;
       room = Runs-room _ _ _ _ _ _ _ _ _ _ _ ran.2;
       same_hash = c.loop-call.invariant.same_hash;
