@@ -1,9 +1,10 @@
--- What a run hashes, and what interns alone place.
-use Rattle.intaglio_interner.proofs.Names.{common_steps, ◌≡◌, ◌≢◌, ℕ, suc, ◌+◌, ◌*◌, ◌<◌, ◌≤◌, Bool, true, false, List, [], ◌∷◌, ◌++◌, length, map, All, Option, Some, None, Ok, Err, Result, alloc_error, MatchOption, inl, inr, refl, ap, arith, cases_eq, All-cons, Key, IsAddedOne, Event, placed, State, first, IsAdded, IsRefused, hashed_keys, placed_count, SearchCost, IsAddingCost, Step, StepCost, RunsValues, KeepsContents, HonoursRoom, searched_keys, InternError, Call, Intern, Reply}
+-- What a run hashes and places, the room that it keeps, and the symbols that it issues.
+use Rattle.intaglio_interner.proofs.Names.{common_steps, ◌≡◌, ◌≢◌, ℕ, suc, ◌+◌, ◌*◌, ◌<◌, ◌≤◌, Bool, true, false, List, [], ◌∷◌, ◌++◌, length, map, All, Option, Some, None, Ok, Err, Result, alloc_error, MatchOption, inl, inr, refl, ap, arith, cases_eq, All-cons, Key, IsAddedOne, Event, placed, State, first, IsAdded, IsRefused, hashed_keys, placed_count, SearchCost, IsAddingCost, Step, StepCost, RunsValues, KeepsContents, HonoursRoom, searched_keys, InternError, Call, Intern, Reply, cases_lt, HasNoLessRoom, KeepsRoom, Clear, Reserve, TakeBack, length-map, ◌∙◌, sym, unwrap_or, is_some, cond, issued, interned, issue_from, issue, IsRefusal}
 use Rattle.intaglio_interner.proofs.InOrder.{hashed_keys-append}
-use Rattle.intaglio_interner.proofs.Room.{IsKept, same-kept, fails-kept, added-length}
-use Rattle.intaglio_interner.proofs.LookUps.{look_up-same, look_up-places}
+use Rattle.intaglio_interner.proofs.Room.{IsKept, same-kept, fails-kept, added-length, interns-sizes}
+use Rattle.intaglio_interner.proofs.LookUps.{look_up-same, look_up-places, interns-as}
 use Rattle.intaglio_interner.proofs.Bytes.{intern-spare}
+use Rattle.intaglio_interner.proofs.Issue.{added-as, shows-key}
 use Rattle.intaglio_symbol.specs.declared.error.InternError.TheVariants as error
 use Rattle.intaglio_interner.specs.declared.runs.Reply.TheVariants as reply
 
@@ -45,6 +46,19 @@ module _ {C : Type 0} (key : C → Key) (hash : Key → ℕ) where
   added-hashes None old next k now cost =
       simp (cost.parts, hashed_keys-append, cost.searches.0.hashings, cost.grows.hashings)
   added-hashes (Some j) old next k now cost = cost.0.hashings
+
+-- an interning gives the symbol of a key, the first one or the next, and the key is held after it
+abbrev pub IsIssued : {C : Type 0} → (C → Key) → State C → Key → ℕ → State C → Type 0
+IsIssued key old k i new =
+    let o = first key old.contents k in
+    (i ≡ unwrap_or o (length old.contents))
+    × (map key new.contents ≡ cond (is_some o) (map key old.contents) (map key old.contents ++ k ∷ []))
+
+-- the keys that are held after an interning
+same-held : {Q : Type 0} (form_key : Q → Key) (held : List Q) (q : Q) →
+    cond (is_some (first form_key held (form_key q))) (map form_key held) (map form_key held ++ form_key q ∷ [])
+    ≡ map form_key (interned form_key held q)
+same-held form_key held q = grind (arith, common_steps)
 
 module _ {C Q : Type 0} (key : C → Key) (value_key : Q → Key) (spelling : C → List ℕ) (adds : Q → List C →
     List C → Type 0) (copies : Bool) (one : (q : Q) (a b : List C) → adds q a b →
@@ -121,6 +135,84 @@ module _ {C Q : Type 0} (key : C → Key) (value_key : Q → Key) (spelling : C 
       rw (run.3, hashed_keys-append run.1 run.2, Runs-hash run.0 new calls replies run.2 run.5)
       (step-hashes old run.0 call r run.1 calls run.4.1)
   Runs-hash old new _ _ cost run = absurd run
+
+  -- room that was there stays, but for calls that shrink
+  call-roomier : (old next : State C) (call : Call Q) (r : Reply) → KeepsRoom call →
+      Step key value_key spelling adds copies old call r next → HasNoLessRoom old next
+  call-roomier old next (Intern q) r keep made = let interns =
+      interns-as key value_key spelling adds copies old next q r made in
+      (interns-sizes key (adds q) copies (value_key q) (one q) old next interns.0 interns.1).0
+  call-roomier old next (Reserve n) reply.Done keep made =
+      elim (cases_lt old.spare n) [
+        | inl missing ↦ omega (arith, ap length made.contents, made.spare)
+        | inr there ↦ rw (made.enough there) (omega arith)
+      ]
+  call-roomier old next (Reserve n) reply.CapacityOverflow keep made = rw made.1 (omega arith)
+  call-roomier old next (Reserve n) reply.NoMemory keep made =
+      omega (arith, ap length made.contents, made.spare)
+  call-roomier old next (Reserve n) _ keep made = absurd made
+  call-roomier old next Clear reply.Done keep made = omega (arith, ap length made.contents, made.spare)
+  call-roomier old next Clear _ keep made = absurd made
+  call-roomier old next (TakeBack n) reply.Done keep made = omega (arith, made.spare)
+  call-roomier old next (TakeBack n) reply.Stale keep made = rw (made (record { private = tt })).1 (omega arith)
+  call-roomier old next (TakeBack n) _ keep made = absurd made
+  call-roomier old next call r keep made =
+      rw (look_up-same key value_key spelling adds copies old next call r keep made) (omega arith)
+
+  -- capacity doesn't fall over a run that shrinks nothing
+  pub Runs-roomier : (old new : State C) (calls : List (Call Q)) (replies : List Reply)
+      (cost : List Event) → All KeepsRoom calls →
+      RunsValues key value_key spelling adds copies hash old calls replies cost new
+      → HasNoLessRoom old new
+  Runs-roomier old new [] [] cost all run = rw run.1 (omega arith)
+  Runs-roomier old new (call ∷ calls) (r ∷ replies) cost all run = omega (
+    arith,
+    call-roomier old run.0 call r (all 0 call (omega arith)) run.4.0,
+    Runs-roomier run.0 new calls replies run.2 (λ k d lt. all (suc k) d (omega arith)) run.5,
+  )
+  Runs-roomier old new _ _ cost all run = absurd run
+
+  -- a reply that is no refusal gives a symbol
+  accepted : (old new : State C) (q : Q) (r : Reply) →
+      Step key value_key spelling adds copies old (Intern q) r new → ¬ IsRefusal r
+      → (i : ℕ) × (r ≡ reply.Symbol (Some i)) × IsIssued key old (value_key q) i new
+  accepted old new q (reply.Symbol (Some i)) step fine = (
+    i,
+    refl,
+    added-as key key (value_key q) (adds q) (λ a b is. shows-key key (value_key q) a b (one q a b is))
+        (first key old.contents (value_key q)) old new i step,
+  )
+  accepted old new q reply.Overflow step fine = absurd (fine tt)
+  accepted old new q reply.NoMemory step fine = absurd (fine tt)
+  accepted old new q _ step fine = absurd step
+
+  -- internings alone are given the symbols of `issue_from`, which go by the keys alone
+  issues-from : (old new : State C) (held qs : List Q) (replies : List Reply) (cost : List Event) →
+      map key old.contents ≡ map value_key held
+      → RunsValues key value_key spelling adds copies hash old (map Intern qs) replies cost new
+      → All (λ r. ¬ IsRefusal r) replies →
+      replies ≡ map (λ i. reply.Symbol (Some i)) (issue_from value_key held qs)
+  issues-from old new held [] [] cost same run none = refl
+  issues-from old new held (q ∷ qs) (r ∷ replies) cost same run none =
+      let given = accepted old run.0 q r run.4.0 (none 0 r (omega arith)) in
+      let found : first key old.contents (value_key q) ≡ first value_key held (value_key q) = rw same refl in
+      let size : length old.contents ≡ length held =
+      sym (length-map old.contents key) ∙ ap length same ∙ length-map held value_key in
+      let symbol : given.0 ≡ issued value_key held q = given.2.0 ∙ rw (found, size) refl in
+      let after : map key run.0.contents ≡ map value_key (interned value_key held q) =
+      given.2.1 ∙ rw same (same-held value_key held q) in
+      let rest = issues-from run.0 new (interned value_key held q) qs replies run.2 after run.5
+      (λ k d lt. none (suc k) d (omega arith)) in
+      rw (given.1, symbol, rest) refl
+  issues-from old new held _ _ cost same run none = absurd run
+
+  -- internings alone, none of which is refused, into an empty table are given the symbols of `issue`
+  pub Runs-issue : (old new : State C) (qs : List Q) (replies : List Reply) (cost : List Event) →
+      old.contents ≡ [] →
+      RunsValues key value_key spelling adds copies hash old (map Intern qs) replies cost new
+      → All (λ r. ¬ IsRefusal r) replies → replies ≡ map (λ i. reply.Symbol (Some i)) (issue value_key qs)
+  Runs-issue old new qs replies cost empty run none =
+      issues-from old new [] qs replies cost (rw empty refl) run none
 
 -- values that aren't copied, in room that is there
 module _ {C Q : Type 0} (key : C → Key) (value_key : Q → Key) (spelling : C → List ℕ) (adds : Q → List C →

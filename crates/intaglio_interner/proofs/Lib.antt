@@ -9,9 +9,7 @@ pub mod Laws
 pub mod OnResult
 pub mod LookUps
 pub mod InOrder
-pub mod Issued
 pub mod Growth
-pub mod RoomKept
 pub mod Bytes
 pub mod Growths
 pub mod Alike

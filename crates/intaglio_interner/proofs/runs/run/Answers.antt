@@ -1,7 +1,5 @@
 use Rattle.intaglio_interner.proofs.Names.{◌≡◌, ◌∙◌, [], arith, append_assoc, append-nil, refl, sym, rules, into_iter_items, All-nil, common_steps, KeepsRoom}
-use Rattle.intaglio_interner.proofs.Growth.{Runs-hash, places, Runs-room}
-use Rattle.intaglio_interner.proofs.Issued.{Runs-issue}
-use Rattle.intaglio_interner.proofs.RoomKept.{Runs-roomier}
+use Rattle.intaglio_interner.proofs.Growth.{Runs-hash, places, Runs-room, Runs-issue, Runs-roomier}
 use Rattle.intaglio_interner.proofs.Bytes.{All-next, StillRoom-next}
 use Rattle.intaglio_interner.proofs.InOrder.{Adds-push}
 use Rattle.intaglio_interner.proofs.Growths.{growing-push, all-growths, call-size, few-growths}
