@@ -11,8 +11,7 @@ use Rattle.intaglio_interner.specs.declared.runs.Reply.TheVariants as reply
 -- the number of placements in events and others behind them is the sum of the numbers in both
 pub placed_count-append : (a b : List Event) → placed_count (a ++ b) ≡ placed_count a + placed_count b
 placed_count-append [] b = omega arith
-placed_count-append (placed ∷ a) b = let e : placed_count (a ++ b) ≡ placed_count a + placed_count b =
-    placed_count-append a b in omega arith
+placed_count-append (placed ∷ a) b = omega (arith, placed_count-append a b)
 placed_count-append (_ ∷ a) b = placed_count-append a b
 
 -- g symbols have been placed again at most, where buckets can still grow at most as many as there are buckets

@@ -95,10 +95,11 @@ module _ {C Q : Type 0} (key : C → Key) (value_key : Q → Key) (spelling : C 
   pub call-size : (old next : State C) (call : Call Q) (r : Reply) → KeepsContents call →
       Step key value_key spelling adds copies old call r next → length old.contents ≤ length next.contents
   call-size old next (Intern q) r keep made =
-      elim (intern-either key value_key spelling adds copies old next q r made) [
-        | inl kept ↦ omega (arith, ap length kept.contents)
-        | inr added ↦
-            omega (arith, added-length key (adds q) copies (value_key q) (one q) old next added.0 added.1)
-      ]
+      grind (
+        arith,
+        common_steps,
+        intern-either key value_key spelling adds copies old next q r made,
+        added-length key (adds q) copies (value_key q) (one q) old next,
+      )
   call-size old next call r keep made =
       rw (look_up-same key value_key spelling adds copies old next call r keep made) (omega arith)
