@@ -141,20 +141,13 @@ module _ {C Q : Type 0} (key : C → Key) (value_key : Q → Key) (spelling : C 
   call-roomier old next (Intern q) r keep made = let interns =
       interns-as key value_key spelling adds copies old next q r made in
       (interns-sizes key (adds q) copies (value_key q) (one q) old next interns.0 interns.1).0
-  call-roomier old next (Reserve n) reply.Done keep made =
-      elim (cases_lt old.spare n) [
-        | inl missing ↦ omega (arith, ap length made.contents, made.spare)
-        | inr there ↦ rw (made.enough there) (omega arith)
-      ]
-  call-roomier old next (Reserve n) reply.CapacityOverflow keep made = rw made.1 (omega arith)
-  call-roomier old next (Reserve n) reply.NoMemory keep made =
-      omega (arith, ap length made.contents, made.spare)
-  call-roomier old next (Reserve n) _ keep made = absurd made
-  call-roomier old next Clear reply.Done keep made = omega (arith, ap length made.contents, made.spare)
-  call-roomier old next Clear _ keep made = absurd made
-  call-roomier old next (TakeBack n) reply.Done keep made = omega (arith, made.spare)
-  call-roomier old next (TakeBack n) reply.Stale keep made = rw (made (record { private = tt })).1 (omega arith)
-  call-roomier old next (TakeBack n) _ keep made = absurd made
+  call-roomier old next (Reserve n) reply.Stale keep made = absurd made
+  call-roomier old next (Reserve n) _ keep made = grind (arith, common_steps)
+  call-roomier old next Clear reply.Stale keep made = absurd made
+  call-roomier old next Clear _ keep made = grind (arith, common_steps)
+  call-roomier old next (TakeBack n) reply.Stale keep made =
+      rw (made (record { private = tt })).1 (omega arith)
+  call-roomier old next (TakeBack n) _ keep made = grind (arith, common_steps)
   call-roomier old next call r keep made =
       rw (look_up-same key value_key spelling adds copies old next call r keep made) (omega arith)
 
@@ -175,12 +168,9 @@ module _ {C Q : Type 0} (key : C → Key) (value_key : Q → Key) (spelling : C 
   accepted : (old new : State C) (q : Q) (r : Reply) →
       Step key value_key spelling adds copies old (Intern q) r new → ¬ IsRefusal r
       → (i : ℕ) × (r ≡ reply.Symbol (Some i)) × IsIssued key old (value_key q) i new
-  accepted old new q (reply.Symbol (Some i)) step fine = (
-    i,
-    refl,
-    added-as key key (value_key q) (adds q) (λ a b is. shows-key key (value_key q) a b (one q a b is))
-        (first key old.contents (value_key q)) old new i step,
-  )
+  accepted old new q (reply.Symbol (Some i)) step fine =
+      let shows = λ (a b : List C) (is : adds q a b). shows-key key (value_key q) a b (one q a b is) in
+      (i, refl, added-as key key (value_key q) (adds q) shows (first key old.contents (value_key q)) old new i step)
   accepted old new q reply.Overflow step fine = absurd (fine tt)
   accepted old new q reply.NoMemory step fine = absurd (fine tt)
   accepted old new q _ step fine = absurd step
