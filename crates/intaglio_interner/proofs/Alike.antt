@@ -1,5 +1,6 @@
 -- What a run replies and leaves follows from its calls, the contents before it and the
 -- limit, if it isn't refused memory.
+use Rattle.std.proofs.lemmas.Grind.{common_steps}
 use Rattle.intaglio_interner.proofs.Names.{◌≡◌, ◌≢◌, ◌∙◌, sym, ap, refl, arith, ℕ, suc, ◌+◌, false, cond, ltb, List, [], ◌∷◌, ◌++◌, length, map, take, Option, Some, None, option_map, is_some, MatchOption, Result, Ok, slice_get, nat_lt, nat_eq, lt-ltb, le-ltb, Key, IsMoved, Event, State, first, IsAppended, Step, found, Runs, Call, Intern, Check, GetInterned, IsInterned, Contains, Get, Len, IsEmpty, Clear, Reserve, ShrinkTo, ShrinkToFit, TakeBack, Reply, InternError}
 use Rattle.intaglio_interner.specs.Alike.{Seen, symbol, pair, bool, spelling, count, done, overflow, capacity_overflow, stale, seen, HasMemory, AreAlike}
 use Rattle.intaglio_interner.specs.declared.runs.Reply.TheVariants as reply
@@ -73,27 +74,16 @@ module _ {C : Type 0} (key : C → Key) (spells : C → List ℕ) where
   step-plain old new (Intern c) reply.Overflow step _ =
       overflow-plain (first key old.contents (key c)) old new c _ (λ j e. cc)
       (step (record { private = tt }))
-  step-plain old new (Check c) (reply.Symbol r) step _ = plain old new (ap symbol step.0) step.1
   step-plain old new (GetInterned c) (reply.Pair r) step _ = plain old new (ap pair step.0) step.1
-  step-plain old new (GetInterned c) _ step _ = absurd step.0
   step-plain old new (IsInterned c) (reply.Bool r) step _ = plain old new (ap bool step.0) step.1
-  step-plain old new (Contains s) (reply.Bool r) step _ = plain old new (ap bool step.0) step.1
   step-plain old new (Get s) (reply.Spelling r) step _ = plain old new (ap spelling step.0) step.1
-  step-plain old new (Get s) _ step _ = absurd step.0
   step-plain old new Len (reply.Count r) step _ = plain old new (ap count step.0) step.1
-  step-plain old new IsEmpty (reply.Bool r) step _ = plain old new (ap bool step.0) step.1
   step-plain old new Clear reply.Done step _ = (refl, step.contents, step.limit)
-  step-plain old new (Reserve n) reply.Done step _ =
-      rw (le-ltb old.limit (length old.contents + n) step.within_limit) (refl, step.contents, step.limit)
   step-plain old new (Reserve n) reply.CapacityOverflow step _ =
       rw (lt-ltb old.limit (length old.contents + n) step.0) (plain old new refl step.1)
-  step-plain old new (ShrinkTo n) reply.Done step _ = (refl, step.contents, step.limit)
-  step-plain old new ShrinkToFit reply.Done step _ = (refl, step.contents, step.limit)
-  step-plain old new (TakeBack n) reply.Done step _ =
-      rw (le-ltb (length old.contents) n step.within) (refl, step.contents, step.limit)
   step-plain old new (TakeBack n) reply.Stale step _ = let h = step (record { private = tt }) in
       rw (lt-ltb (length old.contents) n h.0) (plain old new refl h.1)
-  step-plain old new _ _ step _ = absurd step
+  step-plain old new _ _ step _ = grind (arith, common_steps, le-ltb)
 
   -- what calls in order say, and the contents that they leave
   abbrev says_each : List C → ℕ → List (Call C) → List Seen

@@ -14,10 +14,8 @@ module _ {C Q : Type 0} (key : C → Key) (value_key : Q → Key) (spelling : C 
   pub look_up-same : (old new : State C) (call : Call Q) (r : Reply) → LooksUp call →
       Step key value_key spelling adds copies old call r new → new ≡ old
   look_up-same old new (Check q) (reply.Symbol x) looks step = step.1
-  look_up-same old new (GetInterned q) r looks step = step.1
   look_up-same old new (IsInterned q) (reply.Bool x) looks step = step.1
   look_up-same old new (Contains s) (reply.Bool x) looks step = step.1
-  look_up-same old new (Get s) r looks step = step.1
   look_up-same old new Len (reply.Count x) looks step = step.1
   look_up-same old new IsEmpty (reply.Bool x) looks step = step.1
   look_up-same old new _ _ looks step = grind (arith, common_steps)
