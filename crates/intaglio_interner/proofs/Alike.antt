@@ -98,13 +98,12 @@ module _ {C : Type 0} (key : C → Key) (spells : C → List ℕ) where
       (cost : List Event) → Runs key spells hash old calls replies cost new → HasMemory replies
       → (map seen replies ≡ says_each old.contents old.limit calls)
       × (new.contents ≡ leaves_all old.contents old.limit calls)
-  runs-plain hash old new [] [] cost run memory = (refl, ap (λ (s : State C). s.contents) run.1)
   runs-plain hash old new (call ∷ calls) (r ∷ replies) cost run memory =
       let one = step-plain old run.0 call r run.4.0 (memory 0 r (omega arith)) in
       let rest =
       runs-plain hash run.0 new calls replies run.2 run.5 (λ k d lt. memory (suc k) d (omega arith)) in
       (rw (one.0, rest.0, one.1, one.2) refl, rw (rest.1, one.1, one.2) refl)
-  runs-plain hash old new _ _ cost run memory = absurd run
+  runs-plain hash old new _ _ cost run memory = grind (arith, common_steps)
 
   -- two runs of the same calls say the same and leave the same contents
   pub runs-alike : AreAlike key spells

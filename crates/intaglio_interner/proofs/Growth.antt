@@ -1,5 +1,5 @@
 -- What a run hashes and places, the room that it keeps, and the symbols that it issues.
-use Rattle.intaglio_interner.proofs.Names.{common_steps, ◌≡◌, ◌≢◌, ℕ, suc, ◌+◌, ◌*◌, ◌<◌, ◌≤◌, Bool, true, false, List, [], ◌∷◌, ◌++◌, length, map, All, Option, Some, None, Ok, Err, Result, alloc_error, MatchOption, inl, inr, refl, ap, arith, cases_eq, All-cons, Key, IsAddedOne, Event, placed, State, first, IsAdded, IsRefused, hashed_keys, placed_count, SearchCost, IsAddingCost, Step, StepCost, RunsValues, KeepsContents, HonoursRoom, searched_keys, InternError, Call, Intern, Reply, cases_lt, HasNoLessRoom, KeepsRoom, Clear, Reserve, TakeBack, length-map, ◌∙◌, sym, unwrap_or, is_some, cond, issued, interned, issue_from, issue, IsRefusal}
+use Rattle.intaglio_interner.proofs.Names.{common_steps, ◌≡◌, ◌≢◌, ℕ, suc, ◌+◌, ◌*◌, ◌<◌, ◌≤◌, Bool, true, false, List, [], ◌∷◌, ◌++◌, length, map, All, Option, Some, None, Ok, Err, Result, alloc_error, MatchOption, inl, inr, refl, ap, arith, cases_eq, All-cons, Key, IsAddedOne, Event, placed, State, first, IsAdded, IsRefused, hashed_keys, placed_count, SearchCost, IsAddingCost, Step, StepCost, RunsValues, KeepsContents, HonoursRoom, searched_keys, InternError, Call, Intern, Reply, HasNoLessRoom, KeepsRoom, Clear, Reserve, TakeBack, length-map, ◌∙◌, sym, unwrap_or, is_some, cond, issued, interned, issue_from, issue, IsRefusal}
 use Rattle.intaglio_interner.proofs.InOrder.{hashed_keys-append}
 use Rattle.intaglio_interner.proofs.Room.{IsKept, same-kept, fails-kept, added-length, interns-sizes}
 use Rattle.intaglio_interner.proofs.LookUps.{look_up-same, look_up-places, interns-as}
@@ -108,13 +108,12 @@ module _ {C Q : Type 0} (key : C → Key) (value_key : Q → Key) (spelling : C 
       All KeepsContents calls → Holds old g →
       RunsValues key value_key spelling adds copies hash old calls replies cost new
       → g + placed_count cost + length old.contents ≤ 3 * length new.contents
-  places old new [] [] cost g all h run = rw (run.0, run.1) (omega (arith, h.twice))
   places old new (call ∷ calls) (r ∷ replies) cost g all h run =
       let one = call-goes old run.0 call r run.1 g (all 0 call (omega arith)) run.4.0 run.4.1 h in
       let rest = places run.0 new calls replies run.2 one.later (λ k d lt. all (suc k) d (omega arith))
       one.holds run.5 in
       rw (run.3, placed_count-append run.1 run.2) (omega (arith, one.spent, rest))
-  places old new _ _ cost g all h run = absurd run
+  places old new _ _ cost g all h run = grind (arith, common_steps)
 
   -- a call hashes the key that it looks for
   step-hashes : (old next : State C) (call : Call Q) (r : Reply) (now : List Event) (calls : List (Call Q)) →
@@ -129,11 +128,10 @@ module _ {C Q : Type 0} (key : C → Key) (value_key : Q → Key) (spelling : C 
   pub Runs-hash : (old new : State C) (calls : List (Call Q)) (replies : List Reply) (cost : List Event) →
       RunsValues key value_key spelling adds copies hash old calls replies cost new
       → hashed_keys cost ≡ searched_keys value_key calls
-  Runs-hash old new [] [] cost run = rw run.0 refl
   Runs-hash old new (call ∷ calls) (r ∷ replies) cost run =
       rw (run.3, hashed_keys-append run.1 run.2, Runs-hash run.0 new calls replies run.2 run.5)
       (step-hashes old run.0 call r run.1 calls run.4.1)
-  Runs-hash old new _ _ cost run = absurd run
+  Runs-hash old new _ _ cost run = grind (arith, common_steps)
 
   -- room that was there stays, but for calls that shrink
   call-roomier : (old next : State C) (call : Call Q) (r : Reply) → KeepsRoom call →
@@ -156,13 +154,12 @@ module _ {C Q : Type 0} (key : C → Key) (value_key : Q → Key) (spelling : C 
       (cost : List Event) → All KeepsRoom calls →
       RunsValues key value_key spelling adds copies hash old calls replies cost new
       → HasNoLessRoom old new
-  Runs-roomier old new [] [] cost all run = rw run.1 (omega arith)
   Runs-roomier old new (call ∷ calls) (r ∷ replies) cost all run = omega (
     arith,
     call-roomier old run.0 call r (all 0 call (omega arith)) run.4.0,
     Runs-roomier run.0 new calls replies run.2 (λ k d lt. all (suc k) d (omega arith)) run.5,
   )
-  Runs-roomier old new _ _ cost all run = absurd run
+  Runs-roomier old new _ _ cost all run = grind (arith, common_steps)
 
   -- a reply that is no refusal gives a symbol
   accepted : (old new : State C) (q : Q) (r : Reply) →
@@ -181,7 +178,6 @@ module _ {C Q : Type 0} (key : C → Key) (value_key : Q → Key) (spelling : C 
       → RunsValues key value_key spelling adds copies hash old (map Intern qs) replies cost new
       → All (λ r. ¬ IsRefusal r) replies →
       replies ≡ map (λ i. reply.Symbol (Some i)) (issue_from value_key held qs)
-  issues-from old new held [] [] cost same run none = refl
   issues-from old new held (q ∷ qs) (r ∷ replies) cost same run none =
       let given = accepted old run.0 q r run.4.0 (none 0 r (omega arith)) in
       let found : first key old.contents (value_key q) ≡ first value_key held (value_key q) = rw same refl in
@@ -193,7 +189,7 @@ module _ {C Q : Type 0} (key : C → Key) (value_key : Q → Key) (spelling : C 
       let rest = issues-from run.0 new (interned value_key held q) qs replies run.2 after run.5
       (λ k d lt. none (suc k) d (omega arith)) in
       rw (given.1, symbol, rest) refl
-  issues-from old new held _ _ cost same run none = absurd run
+  issues-from old new held _ _ cost same run none = grind (arith, common_steps)
 
   -- internings alone, none of which is refused, into an empty table are given the symbols of `issue`
   pub Runs-issue : (old new : State C) (qs : List Q) (replies : List Reply) (cost : List Event) →
@@ -223,12 +219,11 @@ module _ {C Q : Type 0} (key : C → Key) (value_key : Q → Key) (spelling : C 
   in-room : (old new : State C) (qs : List Q) (replies : List Reply) (cost : List Event) →
       RunsValues key value_key spelling adds false hash old (map Intern qs) replies cost new →
       length qs ≤ old.spare → All (λ r. r ≢ reply.NoMemory) replies
-  in-room old new [] [] cost run le = λ k d lt. absurd (omega arith)
   in-room old new (q ∷ qs) (r ∷ replies) cost run le =
       let less = intern-spare key value_key spelling adds false old run.0 q r run.4.0 (omega arith) in
       All-cons (λ (x : Reply). x ≢ reply.NoMemory) r replies (quiet old run.0 q r run.4.0 (omega arith))
       (in-room run.0 new qs replies run.2 run.5 (omega arith))
-  in-room old new _ _ cost run le = absurd run
+  in-room old new _ _ cost run le = grind (arith, common_steps)
 
   -- as many as there is room for are interned without running out of memory, unless they are copied
   pub Runs-room : (copies : Bool) (old new : State C) (calls : List (Call Q)) (replies : List Reply)

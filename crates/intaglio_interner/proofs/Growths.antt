@@ -1,5 +1,5 @@
 -- How often the memory of a table's contents grows.
-use Rattle.intaglio_interner.proofs.Names.{common_steps, ◌≡◌, ◌≢◌, ℕ, suc, ◌+◌, ◌*◌, ◌^◌, ◌≤◌, max, Bool, List, [], ◌∷◌, ◌++◌, length, All, inl, inr, refl, ap, arith, cases_eq, ne_eqb, Key, IsAddedOne, State, Step, KeepsContents, KeepsRoom, Room, changes, bytes_of, CallGrows, RunsGrowing, Call, Intern, ShrinkToFit, Reply}
+use Rattle.intaglio_interner.proofs.Names.{common_steps, ◌≡◌, ◌≢◌, ℕ, suc, ◌+◌, ◌*◌, ◌^◌, ◌≤◌, max, Bool, List, [], ◌∷◌, ◌++◌, length, All, inl, inr, refl, arith, cases_eq, ne_eqb, Key, IsAddedOne, State, Step, KeepsContents, KeepsRoom, Room, changes, bytes_of, CallGrows, RunsGrowing, Call, Intern, ShrinkToFit, Reply}
 use Rattle.std.proofs.Math.Nat.{mul-le-mul_left, mul_assoc, pow-suc}
 use Rattle.intaglio_interner.proofs.Room.{added-length}
 use Rattle.intaglio_interner.proofs.LookUps.{look_up-same, intern-either}
@@ -42,14 +42,12 @@ module _ {C Q : Type 0} (takes : C → ℕ) (needs : Q → ℕ) where
         All KeepsRoom calls → RunsGrowing takes needs IsStep old calls replies g h new
         → (2 ^ g * max 1 old.most ≤ max 1 new.most)
         × (2 ^ h * max 1 (bytes_of takes old) ≤ max 1 (bytes_of takes new))
-    all-growths old [] [] g h new keep run =
-        (rw (run.0, run.2) (omega arith), rw (run.1, run.2) (omega arith))
     all-growths old (call ∷ calls) (r ∷ replies) g h new keep run =
         let rest =
         all-growths run.0 calls replies run.1 run.2 new (λ k d lt. keep (suc k) d (omega arith)) run.7 in
         let twice = doubles old run.0 call (keep 0 call (omega arith)) run.6 in
         (doubled g run.1 _ _ _ run.3 twice.0 rest.0, doubled h run.2 _ _ _ run.4 twice.1 rest.1)
-    all-growths old _ _ g h new keep run = absurd run
+    all-growths old _ _ g h new keep run = grind (arith, common_steps)
 
     -- one call more
     pub growing-push : (old : Room C) (calls : List (Call Q)) (replies : List Reply) (g h : ℕ) (mid : Room C)
@@ -79,14 +77,13 @@ module _ {C Q : Type 0} (takes : C → ℕ) (needs : Q → ℕ) where
           (new : Room C) → All KeepsContents calls → RunsGrowing takes needs IsStep old calls replies g h new
           → (length old.state.contents ≤ length new.state.contents)
           × (new.most ≤ max old.most (max 4 (2 * length new.state.contents)))
-      few-growths old [] [] g h new keep run = rw run.2 (omega arith, omega arith)
       few-growths old (call ∷ calls) (r ∷ replies) g h new keep run =
           let rest = few-growths run.0 calls replies run.1 run.2 new (λ k d lt. keep (suc k) d (omega arith))
           run.7 in
           let size = sizes old.state run.0.state call r (keep 0 call (omega arith)) run.5 in
           let more = list-within old run.0 call (keep 0 call (omega arith)) run.6 in
           (omega (arith, size, rest.0), grind (arith, common_steps))
-      few-growths old _ _ g h new keep run = absurd run
+      few-growths old _ _ g h new keep run = grind (arith, common_steps)
 
 -- internings and look-ups drop no content
 module _ {C Q : Type 0} (key : C → Key) (value_key : Q → Key) (spelling : C → List ℕ) (adds : Q → List C →

@@ -1,5 +1,5 @@
 -- Look-ups leave a table as it is, and internings keep its contents or add one.
-use Rattle.intaglio_interner.proofs.Names.{KeepsContents, common_steps, arith, ◌≡◌, ◌⊎◌, ℕ, Bool, List, Some, Ok, Err, Result, alloc_error, Key, Event, State, IsAdded, InternsValue, placed_count, Step, StepCost, InternError, Call, Intern, Check, GetInterned, IsInterned, Contains, Get, Len, IsEmpty, Reply}
+use Rattle.intaglio_interner.proofs.Names.{KeepsContents, common_steps, arith, ◌≡◌, ◌⊎◌, ℕ, Bool, List, Some, Ok, Err, Result, alloc_error, Key, Event, State, IsAdded, InternsValue, placed_count, Step, StepCost, InternError, Call, Intern, Check, IsInterned, Contains, Len, IsEmpty, Reply}
 use Rattle.intaglio_interner.proofs.Room.{IsKept, interns-either}
 use Rattle.intaglio_symbol.specs.declared.error.InternError.TheVariants as intern_error
 use Rattle.intaglio_interner.specs.declared.runs.Reply.TheVariants as reply
