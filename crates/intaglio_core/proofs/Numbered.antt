@@ -161,13 +161,9 @@ module _ (hash : Key → ℕ) (keys : List Key) (k : Key) where
           (hashed k ∷ (spent keys k (passed + 1) seen ++ last))
       cost seen met tail last split stored none sought steps placements =
           let r = recorded keys k (passed + 1) seen last in
-          let is : stored_keys (spent keys k (passed + 1) seen ++ last) ≡ map (key_at keys k) met =
-          r.2 ∙ stored in
-          let all : map (key_at keys k) numbers ≡ map (key_at keys k) met ++ map (key_at keys k) tail =
-          ap (map (key_at keys k)) split ∙ map-append (key_at keys k) met tail in
-          let sizes : length (map (key_at keys k) numbers) ≡ length (map (key_at keys k) met)
-          + length (map (key_at keys k) tail) =
-          ap length all ∙ length-append (map (key_at keys k) met) (map (key_at keys k) tail) in
+          let is = r.2 ∙ stored in
+          let all = ap (map (key_at keys k)) split ∙ map-append (key_at keys k) met tail in
+          let sizes = ap length all ∙ length-append (map (key_at keys k) met) (map (key_at keys k) tail) in
           let left : (i : ℕ) (d : Key) → i < length (map (key_at keys k) met) →
           get_or (map (key_at keys k) numbers) i d ≡ get_or (map (key_at keys k) met) i d =
           λ i d l. ap (λ ks. get_or ks i d) all
@@ -176,16 +172,11 @@ module _ (hash : Key → ℕ) (keys : List Key) (k : Key) where
             hashings = ap (λ ks. k ∷ ks) (r.0 ∙ none);
             sought = r.1 sought;
             once = rw is (λ i j d l lj.
-                rw (
-                  ← left i d (omega (arith, l, lj)),
-                  ← left j d lj,
-                ) (all_apart i j d l (omega (arith, lj, sizes))));
-            within = rw is (λ i d l. rw (← left i d l) (all_within places i d (omega (arith, l, sizes))));
-            equal_hashes =
-                rw is (λ i d l.
-                rw (← left i d l)
+                rw (← left i d (omega arith), ← left j d lj) (all_apart i j d l (omega arith)));
+            within = rw is (λ i d l. rw (← left i d l) (all_within places i d (omega arith)));
+            equal_hashes = rw is (λ i d l. rw (← left i d l)
                 (All-map (λ x. hash x ≡ hash k) (key_at keys k) numbers (λ at d l. (equal.each at d l).1) i
-                d (omega (arith, l, sizes))));
+                d (omega arith)));
             steps = omega (arith, steps, r.3, few);
             placements = r.4 ∙ placements;
           }
