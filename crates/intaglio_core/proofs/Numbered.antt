@@ -198,14 +198,10 @@ module _ (hash : Key → ℕ) (keys : List Key) (k : Key) where
           let events = spent keys k (passed + 1) is.seen in
           let last : events ++ [] ≡ events = append-nil events in
           let stepped : 1 ≤ step_count (events ++ []) =
-          omega (arith, (recorded keys k (passed + 1) is.seen []).3) in (
-            sym none,
-            (
-              events,
-              is.events,
-              (rw last at costs, rw none (record { steps = rw last at stepped; comparison = tt })),
-            ),
-          )
+          omega (arith, (recorded keys k (passed + 1) is.seen []).3) in
+          let marks : IsRecorded k (first_of keys k) (hashed k ∷ events) =
+          rw none (record { steps = rw last at stepped; comparison = tt }) in
+          (sym none, (events, is.events, (rw last at costs, marks)))
 
       -- the content of the next number has the key
       pub finds : (s : ℕ) (rest : List ℕ) (start now later : List Event) →
@@ -216,35 +212,23 @@ module _ (hash : Key → ℕ) (keys : List Key) (k : Key) where
           × IsRecorded k (first_of keys k) (hashed k ∷ cost))
       finds s rest start now later is same compares =
           let n = length is.seen in
-          let size : length numbers ≡ n + suc (length rest) =
-          ap length is.split ∙ length-append is.seen (s ∷ rest) in
+          let size = ap length is.split ∙ length-append is.seen (s ∷ rest) in
           let here : get_or numbers n 0 ≡ s =
           ap (λ ns. get_or ns n 0) is.split ∙ get_or-append_seam is.seen s rest 0 in
           let within : s < length keys =
           subst (λ i. i < length keys) here (equal.each n 0 (omega (arith, size))).0 in
           let found : first_of keys k ≡ Some s =
           first-some keys k s within same (λ j l e. distinct j s [] l within (e ∙ sym same)) in
-          let split : numbers ≡ (is.seen ++ s ∷ []) ++ rest =
-          is.split ∙ sym (append_assoc is.seen (s ∷ []) rest) in
+          let split = is.split ∙ sym (append_assoc is.seen (s ∷ []) rest) in
           let last = compared k (key_at keys k s) ∷ [] in
           let costs =
           cost is.seen (is.seen ++ s ∷ []) rest last split
           (sym (map-append (key_at keys k) is.seen (s ∷ []))) refl
           (All-cons (λ x. x ≡ k) k [] refl (All-nil (λ x. x ≡ k))) (omega (arith, size)) refl in
           let events = spent keys k (passed + 1) is.seen in
-          let steps = (recorded keys k (passed + 1) is.seen last).3 in (
-            sym found,
-            (
-              events ++ last,
-              rw (compares, is.events) (append_assoc start events last),
-              (
-                costs,
-                rw found
-                    (record {
-                      steps = omega (arith, steps);
-                      comparison =
-                          (hashed k ∷ events, [], ap (λ x. hashed k ∷ (events ++ compared k x ∷ [])) same);
-                    }),
-              ),
-            ),
-          )
+          let steps = (recorded keys k (passed + 1) is.seen last).3 in
+          let marks : IsRecorded k (first_of keys k) (hashed k ∷ (events ++ last)) = rw found (record {
+            steps = omega (arith, steps);
+            comparison = (hashed k ∷ events, [], ap (λ x. hashed k ∷ (events ++ compared k x ∷ [])) same);
+          }) in
+          (sym found, (events ++ last, rw (compares, is.events) (append_assoc start events last), (costs, marks)))
