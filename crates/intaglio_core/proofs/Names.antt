@@ -13,6 +13,6 @@ pub use Rattle.std.proofs.Math.Seq.{get_or-append_seam, take-length}
 pub use Rattle.std.proofs.lemmas.Bool.{cases_lt, eq-eqb, eqb-true, ne_eqb}
 pub use Rattle.std.proofs.lemmas.Grind.{common_steps}
 pub use Rattle.std.proofs.lemmas.List.{get_or-map, get_or_append_left, get_or_default, length-map, length-take-le, map-append, map-id, take-map}
-pub use Rattle.std.proofs.lemmas.List.Elements.{All-append, All-cons, All-contains, All-filter, All-from_recursion, All-map, All-nil, Contains-append_right, filter_passes}
+pub use Rattle.std.proofs.lemmas.List.Elements.{All-push, All-append, All-cons, All-contains, All-filter, All-from_recursion, All-map, All-nil, Contains-append_right, filter_passes}
 pub use Rattle.std.proofs.lemmas.Map.Made.{AllPairs-from_IsDistinct, IsDistinct-from_AllPairs, IsDistinct-keys_filter, is_member-Decides, length-le_from_is_member}
 pub use Rattle.std.specs.List.{All, AllByRecursion, AllPairs, Contains, IsDistinct}

@@ -1,5 +1,5 @@
 -- A search that compares the contents with one hash, by their numbers.
-use Rattle.intaglio_core.proofs.Names.{common_steps, ◌≡◌, ◌≢◌, ℕ, zero, suc, ◌+◌, ◌%◌, ◌<◌, ◌≤◌, ◌==◌, Bool, true, false, cond, List, [], ◌∷◌, ◌++◌, replicate, length, map, filter, get_or, Some, None, refl, sym, ap, ◌∙◌, subst, arith, append_assoc, append-nil, length-append, inl, inr, All, AllPairs, Contains, cases_lt, eq-eqb, get_or-map, get_or_default, length-map, map-append, get_or_append_left, get_or-append_seam, All-append, All-cons, All-contains, All-map, All-nil, Contains-append_right, IsDistinct-from_AllPairs, is_member-Decides, length-le_from_is_member, Key, IsCompared, Event, hashed, compared, step, first_of, key_eq, AreDistinct, hashed_keys, sought_keys, stored_keys, step_count, placed_count, bucket_keys, IsSearchCost, IsRecorded, Adds, first-none, first-some, key_eq-decides}
+use Rattle.intaglio_core.proofs.Names.{All-push, common_steps, ◌≡◌, ◌≢◌, ℕ, zero, suc, ◌+◌, ◌%◌, ◌<◌, ◌≤◌, ◌==◌, Bool, true, false, cond, List, [], ◌∷◌, ◌++◌, replicate, length, map, filter, get_or, Some, None, refl, sym, ap, ◌∙◌, subst, arith, append_assoc, append-nil, length-append, inl, inr, All, AllPairs, Contains, cases_lt, eq-eqb, get_or-map, get_or_default, length-map, map-append, get_or_append_left, get_or-append_seam, All-append, All-cons, All-contains, All-map, All-nil, Contains-append_right, IsDistinct-from_AllPairs, is_member-Decides, length-le_from_is_member, Key, IsCompared, Event, hashed, compared, step, first_of, key_eq, AreDistinct, hashed_keys, sought_keys, stored_keys, step_count, placed_count, bucket_keys, IsSearchCost, IsRecorded, Adds, first-none, first-some, key_eq-decides}
 use Rattle.std.specs.Cmp.{IsEquivalence}
 use Rattle.std.specs.Cmp.Lexicographic.{lists_equiv, nat_list_eq_equiv}
 
@@ -79,9 +79,7 @@ module _ (keys : List Key) (k : Key) where
       record {
         seen = is.seen ++ s ∷ [];
         split = is.split ∙ sym (append_assoc is.seen (s ∷ []) rest);
-        others =
-            All-append (λ i. key_at i ≢ k) is.seen (s ∷ []) is.others
-            (All-cons (λ i. key_at i ≢ k) s [] other (All-nil (λ i. key_at i ≢ k)));
+        others = All-push (λ i. key_at i ≢ k) is.seen s is.others other;
         events = rw more (rw (← is.events, ← compares) steps);
       }
 
@@ -92,14 +90,8 @@ module _ (keys : List Key) (k : Key) where
       × (stored_keys all ≡ map key_at is ++ stored_keys last)
       × (step_count all ≡ n + length is + step_count last) × (placed_count all ≡ placed_count last)
   recorded zero [] last = (refl, λ all. all, refl, omega arith, refl)
-  recorded zero (i ∷ is) last =
-      let r = recorded zero is last in (
-        r.0,
-        λ all. All-cons (λ x. x ≡ k) k _ refl (r.1 all),
-        ap (λ ks. key_at i ∷ ks) r.2,
-        omega (arith, r.3),
-        r.4,
-      )
+  recorded zero (i ∷ is) last = let r = recorded zero is last in
+      (r.0, λ all. All-cons (λ x. x ≡ k) k _ refl (r.1 all), ap (λ ks. key_at i ∷ ks) r.2, omega arith, r.4)
   recorded (suc n) is last = let r = recorded n is last in (r.0, r.1, r.2, omega (arith, r.3), r.4)
 
 module _ (hash : Key → ℕ) (keys : List Key) (k : Key) where
