@@ -1,5 +1,5 @@
 -- A search that compares the contents with one hash, by their numbers.
-use Rattle.intaglio_core.proofs.Names.{All-push, common_steps, ◌≡◌, ◌≢◌, ℕ, zero, suc, ◌+◌, ◌%◌, ◌<◌, ◌≤◌, ◌==◌, Bool, true, false, cond, List, [], ◌∷◌, ◌++◌, replicate, length, map, filter, get_or, Some, None, refl, sym, ap, ◌∙◌, subst, arith, append_assoc, append-nil, length-append, inl, inr, All, AllPairs, Contains, cases_lt, eq-eqb, get_or-map, get_or_default, length-map, map-append, get_or_append_left, get_or-append_seam, All-append, All-cons, All-contains, All-map, All-nil, Contains-append_right, IsDistinct-from_AllPairs, is_member-Decides, length-le_from_is_member, Key, IsCompared, Event, hashed, compared, step, first_of, key_eq, AreDistinct, hashed_keys, sought_keys, stored_keys, step_count, placed_count, bucket_keys, IsSearchCost, IsRecorded, Adds, first-none, first-some, key_eq-decides}
+use Rattle.intaglio_core.proofs.Names.{All-push, common_steps, ◌≡◌, ◌≢◌, ℕ, zero, suc, ◌+◌, ◌%◌, ◌<◌, ◌≤◌, ◌==◌, Bool, true, false, cond, List, [], ◌∷◌, ◌++◌, replicate, length, map, filter, get_or, Some, None, refl, sym, ap, ◌∙◌, subst, arith, append_assoc, append-nil, length-append, inl, inr, All, AllPairs, Contains, cases_lt, eq-eqb, get_or-map, get_or_default, length-map, map-append, get_or_append_left, get_or-append_seam, All-cons, All-contains, All-map, All-nil, Contains-append_right, IsDistinct-from_AllPairs, is_member-Decides, length-le_from_is_member, Key, IsCompared, Event, hashed, compared, step, first_of, key_eq, AreDistinct, hashed_keys, sought_keys, stored_keys, step_count, placed_count, bucket_keys, IsSearchCost, IsRecorded, Adds, first-none, first-some, key_eq-decides}
 use Rattle.std.specs.Cmp.{IsEquivalence}
 use Rattle.std.specs.Cmp.Lexicographic.{lists_equiv, nat_list_eq_equiv}
 
