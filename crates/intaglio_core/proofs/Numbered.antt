@@ -205,8 +205,7 @@ module _ (hash : Key → ℕ) (keys : List Key) (k : Key) where
       finds s rest start now later is same compares =
           let n = length is.seen in
           let size = ap length is.split ∙ length-append is.seen (s ∷ rest) in
-          let here : get_or numbers n 0 ≡ s =
-          ap (λ ns. get_or ns n 0) is.split ∙ get_or-append_seam is.seen s rest 0 in
+          let here = ap (λ (ns : List ℕ). get_or ns n 0) is.split ∙ get_or-append_seam is.seen s rest 0 in
           let within : s < length keys =
           subst (λ i. i < length keys) here (equal.each n 0 (omega (arith, size))).0 in
           let found : first_of keys k ≡ Some s =
