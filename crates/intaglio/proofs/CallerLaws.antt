@@ -1,17 +1,7 @@
 -- The laws that callers cite. Those from `below` are proved in `intaglio_interner`, and stated again here so
 -- that a crate that lists only `intaglio` finds them.
-use Rattle.std.proofs.Common.{◌≡◌, ◌≢◌, ◌∙◌, ap, refl, sym, arith, ℕ, zero, suc, ◌+◌, ◌<◌, List, [], ◌∷◌, ◌++◌, length, map, take, get_or, length-append, Option, Some, None, option_map, is_some, MatchOption, Result, Ok}
-use Rattle.std.specs.Prelude.{slice_get, ◌↔◌, IsTrue, Contains, AllPairs}
-use Rattle.std.proofs.lemmas.List.{length-map, map-append}
-use Rattle.std.proofs.lemmas.Option.{same_Some, slice_get_within}
-use Rattle.intaglio_content.specs.Key.{Key}
-use Rattle.intaglio_content.specs.Store.{IsMoved, IsPushed}
-use Rattle.intaglio_symbol.specs.declared.error.InternError.{InternError}
-use Rattle.intaglio_interner.specs.State.{State, first_of, first, spelling_at, IsValid}
-use Rattle.intaglio_interner.specs.Change.{Empties, IsAdded, IsAppended, Interns, IsCopyAppended, InternsForm}
-use Rattle.intaglio_interner.specs.Lookup.{IsFound, FindsNothing, IsStored, Keeps}
-use Rattle.intaglio_interner.specs.Issue.{issue_from, interned_all}
-use Rattle.intaglio_interner.proofs.First.{first-tells, none-each, some-below}
+use Rattle.std.proofs.Common.{◌≡◌, ◌≢◌, ◌∙◌, ap, refl, sym, arith, ℕ, zero, suc, ◌+◌, ◌<◌, List, [], ◌∷◌, ◌++◌, length, map, take, get_or, length-append, Option, Some, None, option_map, is_some, MatchOption, Result, Ok, slice_get, ◌↔◌, IsTrue, Contains, AllPairs}
+use Rattle.intaglio.proofs.Common.{length-map, map-append, same_Some, slice_get_within, Key, IsMoved, IsPushed, InternError, State, first_of, first, spelling_at, IsValid, Empties, IsAdded, IsAppended, Interns, IsCopyAppended, InternsForm, IsFound, FindsNothing, IsStored, Keeps, issue_from, interned_all, first-tells, none-each, some-below}
 use Rattle.intaglio_interner.proofs.Laws as below
 use Rattle.intaglio.specs.Grows.{Grows, GrowsByForm}
 

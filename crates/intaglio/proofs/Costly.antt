@@ -1,11 +1,8 @@
 -- What is no cost of a search or of an interning.
-use Rattle.std.proofs.lemmas.Grind.{common_steps}
-use Rattle.std.proofs.Common.{◌≡◌, ◌≢◌, ℕ, suc, ◌+◌, ◌<◌, List, [], ◌∷◌, ◌++◌, None, length, All, length-append, refl, ap, arith}
-use Rattle.std.specs.Prelude.{Contains}
+use Rattle.intaglio.proofs.Common.{common_steps, Key, State, AreDistinct}
+use Rattle.std.proofs.Common.{◌≡◌, ◌≢◌, ℕ, suc, ◌+◌, ◌<◌, List, [], ◌∷◌, ◌++◌, None, length, All, length-append, refl, ap, arith, Contains}
 use Rattle.std.proofs.lemmas.List.Elements.{All-nil, All-cons, All-head, All-tail, All-same}
-use Rattle.intaglio_content.specs.Key.{Key}
 use Rattle.intaglio_content.specs.Work.{Event, hashed, compared, placed}
-use Rattle.intaglio_interner.specs.State.{State, AreDistinct}
 use Rattle.intaglio_interner.specs.Cost.{hashed_keys, sought_keys, stored_keys, placed_count}
 use Rattle.intaglio_interner.proofs.Growth.{added-hashes, adding-places, placed_count-append}
 use Rattle.intaglio_interner.proofs.InOrder.{hashed_keys-append}

@@ -2,13 +2,8 @@
 use Rattle.std.proofs.Common.{◌≡◌, ◌∙◌, refl, sym, ap, arith, ℕ, ◌+◌, ◌-◌, List, [], ◌∷◌, ◌++◌, length, map, None, length-append}
 use Rattle.std.proofs.Math.ListN.{get_or-append}
 use Rattle.std.proofs.Math.Seq.{get_or-append_seam}
-use Rattle.std.proofs.lemmas.List.{append-nil, append_assoc, map-append}
-use Rattle.intaglio_symbol.specs.AllSymbols.{numbers_from}
+use Rattle.intaglio.proofs.Common.{append-nil, append_assoc, map-append, numbers_from, Key, first_of, first, AreDistinct, issued, interned, issue_from, interned_all, first-none}
 use Rattle.intaglio_symbol.proofs.NumbersLemmas.{numbers_from-none, numbers_from-first}
-use Rattle.intaglio_content.specs.Key.{Key}
-use Rattle.intaglio_interner.specs.State.{first_of, first, AreDistinct}
-use Rattle.intaglio_interner.specs.Issue.{issued, interned, issue_from, interned_all}
-use Rattle.intaglio_interner.proofs.First.{first-none}
 
 -- a key at the seam of two lists that are distinct together isn't in the first one
 fresh : (ks : List Key) (k : Key) (more : List Key) → AreDistinct (ks ++ k ∷ more) → first_of ks k ≡ None

@@ -1,11 +1,6 @@
 -- What a rollback to a mark restores, if every call since the mark kept the contents.
 use Rattle.std.proofs.Common.{◌≡◌, ◌≤◌, ◌∙◌, ap, refl, arith, List, length, take, Result, Ok, Err, IsOk}
-use Rattle.std.proofs.lemmas.List.{length-take}
-use Rattle.intaglio_content.specs.Key.{Key}
-use Rattle.intaglio_interner.specs.State.{State}
-use Rattle.intaglio_interner.specs.Change.{TakesBack}
-use Rattle.intaglio_interner.specs.Lookup.{Keeps}
-use Rattle.intaglio_interner.proofs.Laws.{keeps-front}
+use Rattle.intaglio.proofs.Common.{length-take, Key, State, TakesBack, Keeps, keeps-front}
 use Rattle.intaglio_symbol.specs.declared.error.StaleMark.{StaleMark}
 
 module _ {C : Type 0} (key : C → Key) where

@@ -1,17 +1,10 @@
 -- The numbers that a search by records gives are those of the contents with the hash.
-use Rattle.std.proofs.lemmas.Grind.{common_steps}
+use Rattle.intaglio_packed.proofs.Common.{common_steps, eq-eqb, lt-ltb, get_or-map, Contains-append_right, get_or_default_zero, Key, AreEqualHashes, one_of, AreAll}
 use Rattle.std.proofs.Common.{◌≡◌, ◌≢◌, ℕ, zero, ◌<◌, ◌≤◌, ◌==◌, ◌&&◌, nat_lt, Bool, true, false, cond, List, [], ◌∷◌, length, map, get_or, refl, sym, ap, ◌∙◌, arith, inl, inr}
 use Rattle.std.specs.List.{All, AllPairs, Contains, sum_by}
-use Rattle.std.proofs.lemmas.Bool.{eq-eqb, lt-ltb}
 use Rattle.std.proofs.lemmas.Bool.Decides.{eqb_tells}
-use Rattle.std.proofs.lemmas.List.{get_or-map}
 use Rattle.std.proofs.lemmas.List.Sums.{sum_by-cons}
 use Rattle.std.proofs.lemmas.List.Kept.{AllPairs-cons}
-use Rattle.std.proofs.lemmas.List.Elements.{Contains-append_right}
-use Rattle.std.proofs.lemmas.Grind.{get_or_default_zero}
-use Rattle.intaglio_content.specs.Key.{Key}
-use Rattle.intaglio_core.proofs.Numbered.{AreEqualHashes}
-use Rattle.intaglio_records.specs.Matches.{one_of, AreAll}
 
 -- how often a number is in a list, where it is
 positive : (i : ℕ) (xs : List ℕ) (at : ℕ) → at < length xs → get_or xs at 0 ≡ i → 0 < sum_by (one_of i) xs

@@ -1,13 +1,6 @@
 -- How chains of lines change.
-use Rattle.std.proofs.lemmas.Grind.{common_steps}
+use Rattle.intaglio_records.proofs.Common.{common_steps, cases_eq, eqb_tells, get_or-set_same, get_or-set_other, length-set, get_or_append_left, get_or_default, get_or-append_seam, Line, Entry, IsLine, Overflow, add, newest, no_line, AreBehind, AreChains}
 use Rattle.std.proofs.Common.{◌≡◌, ◌≢◌, ℕ, ◌+◌, ◌<◌, ◌≤◌, List, [], ◌∷◌, ◌++◌, length, get_or, set, refl, ◌∙◌, arith, inl, inr, length-append}
-use Rattle.std.proofs.lemmas.Bool.{cases_eq}
-use Rattle.std.proofs.lemmas.Bool.Decides.{eqb_tells}
-use Rattle.std.proofs.lemmas.List.{get_or-set_same, get_or-set_other, length-set, get_or_append_left, get_or_default}
-use Rattle.std.proofs.Math.Seq.{get_or-append_seam}
-use Rattle.intaglio_records.specs.declared.line.Line.{Line}
-use Rattle.intaglio_records.specs.Line.{Entry, IsLine}
-use Rattle.intaglio_records.specs.Chains.{Overflow, add, newest, no_line, AreBehind, AreChains}
 
 -- adding an entry to an overflow line leaves the number of these lines
 pub add-length : (c : ℕ) (e : Entry) (os : List Overflow) → length (add c e os) ≡ length os

@@ -1,10 +1,6 @@
 -- Strings between ends.
-use Rattle.std.proofs.lemmas.Grind.{common_steps}
+use Rattle.intaglio_records.proofs.Common.{common_steps, concat, drop_all, drop-drop, take-append-drop, drop-take, take-take, sum_by-cons, strings_from, AreEnds}
 use Rattle.std.proofs.Common.{append_assoc, length-append, take_all, sym, ◌≡◌, ℕ, ◌+◌, ◌-◌, ◌<◌, ◌≤◌, suc, zero, List, [], ◌∷◌, ◌++◌, length, take, drop, get_or, slice_get, slice_range, Some, refl, ap, ◌∙◌, arith, length-drop, length-take-le, sum_by}
-use Rattle.std.specs.List.{concat}
-use Rattle.std.proofs.lemmas.List.{drop_all, drop-drop, take-append-drop, drop-take, take-take}
-use Rattle.std.proofs.lemmas.List.Sums.{sum_by-cons}
-use Rattle.intaglio_records.specs.Strings.{strings_from, AreEnds}
 
 -- where the first string begins is within the bytes
 pub ends-within : (at all : ℕ) (es : List ℕ) → AreEnds at all es → at ≤ all

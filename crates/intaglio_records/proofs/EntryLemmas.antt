@@ -1,14 +1,6 @@
 -- Entries of records.
-use Rattle.std.proofs.lemmas.Grind.{common_steps}
-use Rattle.std.proofs.lemmas.Bool.{not-false}
+use Rattle.intaglio_records.proofs.Common.{common_steps, not-false, get_or-map, get_or-take, get_or_append_left, length-append, length-drop, length-map, length-take, take-append-le, take-take, sum_by-cons, get_or_from_slice_get, get_or-append_seam, hash_at, pair_of, entries, entries_of, position, size_of, slot_of}
 use Rattle.std.proofs.Common.{not, ◌≡◌, ℕ, ◌+◌, ◌<◌, ◌≤◌, suc, zero, Bool, List, [], ◌∷◌, ◌++◌, length, take, map, slice_get, Some, min, sum_by, refl, ap, ◌∙◌, arith, take_all}
-use Rattle.std.proofs.lemmas.List.{get_or-map, get_or-take, get_or_append_left, length-append, length-drop, length-map, length-take, take-append-le, take-take}
-use Rattle.std.proofs.lemmas.List.Sums.{sum_by-cons}
-use Rattle.std.proofs.lemmas.Option.{get_or_from_slice_get}
-use Rattle.std.proofs.Math.Seq.{get_or-append_seam}
-use Rattle.intaglio_records.specs.Header.{hash_at}
-use Rattle.intaglio_records.specs.Records.{pair_of}
-use Rattle.intaglio_records.specs.Entries.{entries, entries_of, position, size_of, slot_of}
 use Rattle.intaglio_records.proofs.RecordLemmas.{AreLong, are-long}
 
 -- there are n entries of n records

@@ -1,13 +1,6 @@
 -- A search finds each entry of its class and tag once.
-use Rattle.std.proofs.lemmas.Grind.{common_steps}
+use Rattle.intaglio_records.proofs.Common.{common_steps, IsPermutation, cases_eq, cond-true, cond-false, eq-eqb, ne_eqb, eqb_tells, IsPermutation-refl, IsPermutation-trans, IsPermutation-append_left, IsPermutation-append_right, IsPermutation-append_comm, Entry, tag_of, Overflow, first_line, add, overflow, newest, slots_with, overflow_slots, slots_of, AreFound}
 use Rattle.std.proofs.Common.{◌≡◌, ◌≢◌, ℕ, ◌%◌, ◌<◌, ◌≤◌, ◌==◌, List, [], ◌∷◌, ◌++◌, length, cond, refl, arith, inl, inr, append_assoc}
-use Rattle.std.specs.List.Sorted.{IsPermutation}
-use Rattle.std.proofs.lemmas.Bool.{cases_eq, cond-true, cond-false, eq-eqb, ne_eqb}
-use Rattle.std.proofs.lemmas.Bool.Decides.{eqb_tells}
-use Rattle.std.proofs.lemmas.List.Sorted.{IsPermutation-refl, IsPermutation-trans, IsPermutation-append_left, IsPermutation-append_right, IsPermutation-append_comm}
-use Rattle.intaglio_records.specs.Line.{Entry, tag_of}
-use Rattle.intaglio_records.specs.Chains.{Overflow, first_line, add, overflow, newest}
-use Rattle.intaglio_records.specs.Search.{slots_with, overflow_slots, slots_of, AreFound}
 use Rattle.intaglio_records.proofs.Tops.{spilling, first-full, first-other, first-here, is-top, length-none}
 
 -- an entry in the middle

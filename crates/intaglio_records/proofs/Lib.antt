@@ -1,3 +1,5 @@
+-- What the proofs share.
+mod Common
 -- Lemmas on strings in one buffer.
 pub mod Ends
 -- Lemmas on lines, and on chains of them.

@@ -1,10 +1,6 @@
 -- What a line has, and how it changes.
-use Rattle.std.proofs.lemmas.Grind.{common_steps}
+use Rattle.intaglio_records.proofs.Common.{common_steps, cases_eq, get_or-set_same, get_or-set_other, length-set, Line, Entry, tag_of, AreIn, IsLine}
 use Rattle.std.proofs.Common.{◌≡◌, ◌≢◌, ℕ, ◌<◌, ◌≤◌, List, [], ◌∷◌, length, get_or, set, ◌∙◌, arith}
-use Rattle.std.proofs.lemmas.Bool.{cases_eq}
-use Rattle.std.proofs.lemmas.List.{get_or-set_same, get_or-set_other, length-set}
-use Rattle.intaglio_records.specs.declared.line.Line.{Line}
-use Rattle.intaglio_records.specs.Line.{Entry, tag_of, AreIn, IsLine}
 
 -- a tag isn't 0
 pub tag-some : (hash : ℕ) → 0 < tag_of hash

@@ -1,23 +1,11 @@
 -- Searches among records.
-use Rattle.std.proofs.lemmas.Grind.{common_steps}
+use Rattle.intaglio_records.proofs.Common.{common_steps, concat, All, cases_lt, cond_both, le-ltb, sum_by-cons, slice_get-map, slice_get-get_or, Candidates, hash_at, number_at, Entry, tag_of, pair_of, AreRecords, entries, position, slot_of, IsPosition, IsSlot, begin_of, numbers_with, one_of, AreAll, IsPermutation, length-map, sum_by-IsPermutation}
 use Rattle.std.proofs.Common.{◌≡◌, ◌≢◌, ℕ, zero, suc, ◌+◌, ◌%◌, ◌^◌, ◌<◌, ◌≤◌, ◌==◌, ◌&&◌, nat_lt, Bool, true, false, inl, inr, arith, sum_by, List, [], ◌∷◌, ◌++◌, length, drop, get_or, slice_get, Some, map, cond, refl, sym, ap, ◌∙◌, subst}
-use Rattle.std.specs.List.{concat, All}
-use Rattle.std.proofs.lemmas.Bool.{cases_lt, cond_both, le-ltb}
-use Rattle.std.proofs.lemmas.List.Sums.{sum_by-cons}
-use Rattle.std.proofs.lemmas.Option.{slice_get-map, slice_get-get_or}
 use Rattle.std.proofs.lemmas.List.Elements.{All-cons, All-head, All-nil, All-tail}
-use Rattle.intaglio_records.specs.declared.search.Candidates.{Candidates}
 use Rattle.intaglio_records.specs.Search as search
 use Rattle.intaglio_records.specs.declared.matches.Matches.{Matches}
-use Rattle.intaglio_records.specs.Header.{hash_at, number_at}
-use Rattle.intaglio_records.specs.Line.{Entry, tag_of}
-use Rattle.intaglio_records.specs.Records.{pair_of, AreRecords}
-use Rattle.intaglio_records.specs.Entries.{entries, position, slot_of}
 use Rattle.intaglio_records.proofs.Reading.{There, there}
-use Rattle.intaglio_records.specs.Matches.{IsPosition, IsSlot, begin_of, numbers_with, one_of, AreAll, IsLeft}
-use Rattle.std.specs.List.Sorted.{IsPermutation}
-use Rattle.std.proofs.lemmas.List.{length-map}
-use Rattle.std.proofs.lemmas.List.Sorted.{sum_by-IsPermutation}
+use Rattle.intaglio_records.specs.Matches.{IsLeft}
 
 -- what is known after a slot is given whose record begins here: whether that is the
 -- next to be given depends on its hash

@@ -1,12 +1,6 @@
 -- What is read of records among the bytes of all.
-use Rattle.std.proofs.lemmas.Grind.{common_steps}
+use Rattle.intaglio_records.proofs.Common.{common_steps, concat, drop-append-le, drop-drop, get_or_append_left, get_or-drop, length-append, length-drop, take-append-le, sum_by-cons, sum_by_more_le, hash_at, number_at, AreRecords, position}
 use Rattle.std.proofs.Common.{◌≡◌, ℕ, ◌+◌, ◌-◌, ◌%◌, ◌^◌, ◌<◌, ◌≤◌, suc, zero, List, [], ◌∷◌, ◌++◌, length, min, take, drop, get_or, slice_range, sum_by, refl, ◌∙◌, arith, take_all}
-use Rattle.std.specs.List.{concat}
-use Rattle.std.proofs.lemmas.List.{drop-append-le, drop-drop, get_or_append_left, get_or-drop, length-append, length-drop, take-append-le}
-use Rattle.std.proofs.lemmas.List.Sums.{sum_by-cons, sum_by_more_le}
-use Rattle.intaglio_records.specs.Header.{hash_at, number_at}
-use Rattle.intaglio_records.specs.Records.{AreRecords}
-use Rattle.intaglio_records.specs.Entries.{position}
 
 -- the bytes of all records
 pub length-concat : (rs : List (List ℕ)) → length (concat rs) ≡ sum_by length rs

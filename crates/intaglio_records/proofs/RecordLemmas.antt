@@ -1,14 +1,6 @@
 -- Lists of records.
-use Rattle.std.proofs.lemmas.Grind.{common_steps}
-use Rattle.std.proofs.Common.{length-append, take_all, ◌≡◌, ℕ, ◌+◌, ◌-◌, ◌*◌, ◌%◌, ◌^◌, ◌<◌, ◌≤◌, suc, zero, List, [], ◌∷◌, ◌++◌, length, take, drop, map, get_or, slice_get, Some, sum_by, refl, ◌∙◌, arith, inl, inr}
-use Rattle.std.specs.Prelude.{OnOk, OnErr, Result, Ok, Err, ◌⊎◌}
-use Rattle.std.proofs.lemmas.Bool.{cases_lt, le-leb, leb-true}
-use Rattle.std.proofs.lemmas.List.{get_or_append_left, length-drop, length-map, take-map}
-use Rattle.std.proofs.lemmas.Option.{slice_get-map}
-use Rattle.std.proofs.lemmas.List.Sums.{sum_by-cons}
-use Rattle.intaglio_records.specs.Header.{header_of}
-use Rattle.intaglio_records.specs.Records.{IsRecord, AreRecords, pair_of, set_aside}
-use Rattle.intaglio_records.specs.Strings.{Strings, byte_room_of}
+use Rattle.intaglio_records.proofs.Common.{common_steps, cases_lt, le-leb, leb-true, get_or_append_left, length-drop, length-map, take-map, slice_get-map, sum_by-cons, header_of, IsRecord, AreRecords, pair_of, set_aside, Strings, byte_room_of}
+use Rattle.std.proofs.Common.{length-append, take_all, ◌≡◌, ℕ, ◌+◌, ◌-◌, ◌*◌, ◌%◌, ◌^◌, ◌<◌, ◌≤◌, suc, zero, List, [], ◌∷◌, ◌++◌, length, take, drop, map, get_or, slice_get, Some, sum_by, refl, ◌∙◌, arith, inl, inr, OnOk, OnErr, Result, Ok, Err, ◌⊎◌}
 
 -- each string of the list has the bytes of a header
 abbrev pub AreLong : List (List ℕ) → Type 0

@@ -1,15 +1,6 @@
 -- What a search gives, and what it has still to give.
-use Rattle.std.proofs.lemmas.Grind.{common_steps}
+use Rattle.intaglio_records.proofs.Common.{common_steps, bit_at, cases_eq, bit_at-lt, eqb_tells, Line, Entry, AreIn, IsLine, Overflow, newest, newest_length, no_line, AreBehind, Candidates, slots_with, overflow_slots, picked, bits_below, IsLeft}
 use Rattle.std.proofs.Common.{◌≡◌, ◌≢◌, ℕ, zero, suc, ◌+◌, ◌<◌, ◌≤◌, ◌==◌, List, [], ◌∷◌, ◌++◌, length, get_or, cond, refl, subst, arith, inl, inr}
-use Rattle.std.specs.Int.{bit_at}
-use Rattle.std.proofs.lemmas.Bool.{cases_eq}
-use Rattle.std.proofs.lemmas.Nat.Bits.{bit_at-lt}
-use Rattle.std.proofs.lemmas.Bool.Decides.{eqb_tells}
-use Rattle.intaglio_records.specs.declared.line.Line.{Line}
-use Rattle.intaglio_records.specs.Line.{Entry, AreIn, IsLine}
-use Rattle.intaglio_records.specs.Chains.{Overflow, newest, newest_length, no_line, AreBehind}
-use Rattle.intaglio_records.specs.declared.search.Candidates.{Candidates}
-use Rattle.intaglio_records.specs.Search.{slots_with, overflow_slots, picked, bits_below, IsLeft}
 
 -- no bit is set
 pub picked-none : (bits : ℕ) (slots : List ℕ) (n : ℕ) → ((i : ℕ) → i < n → bit_at bits i ≡ 0) →

@@ -1,10 +1,6 @@
 -- How many overflow lines there are: every eleventh entry of a class makes one.
-use Rattle.std.proofs.lemmas.Grind.{common_steps}
+use Rattle.intaglio_records.proofs.Common.{common_steps, cases_eq, cases_lt, lt-ltb, cond-false, eq-eqb, ne_eqb, eqb_tells, Entry, Overflow, first_line, newest_length, add, overflow, newest}
 use Rattle.std.proofs.Common.{◌≡◌, ◌≢◌, ◌⊎◌, ℕ, zero, suc, ◌+◌, ◌*◌, ◌%◌, ◌<◌, ◌≤◌, ◌==◌, List, [], ◌∷◌, length, cond, refl, sym, arith, inl, mod-lt}
-use Rattle.std.proofs.lemmas.Bool.{cases_eq, cases_lt, lt-ltb, cond-false, eq-eqb, ne_eqb}
-use Rattle.std.proofs.lemmas.Bool.Decides.{eqb_tells}
-use Rattle.intaglio_records.specs.Line.{Entry}
-use Rattle.intaglio_records.specs.Chains.{Overflow, first_line, newest_length, add, overflow, newest}
 use Rattle.intaglio_records.proofs.ChainLemmas.{add-length, newest-add}
 
 -- what an entry does to the first lines and the overflow lines

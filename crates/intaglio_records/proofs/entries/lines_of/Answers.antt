@@ -1,6 +1,5 @@
-use Rattle.std.proofs.lemmas.Grind.{common_steps}
+use Rattle.intaglio_records.proofs.Common.{common_steps, entries}
 use Rattle.std.proofs.Common.{arith}
-use Rattle.intaglio_records.specs.Entries.{entries}
 use Rattle.intaglio_records.proofs.EntryLemmas.{entry-more, length-entries}
 use Rattle.intaglio_records.proofs.entries.lines_of.Goals as goal
 

@@ -1,7 +1,5 @@
-use Rattle.std.proofs.lemmas.Grind.{common_steps}
+use Rattle.intaglio_records.proofs.Common.{common_steps, IsFilled, entries, position, slot_of}
 use Rattle.std.proofs.Common.{◌∷◌, ◌-◌, arith, ◌∙◌, subst}
-use Rattle.intaglio_records.specs.Chains.{IsFilled}
-use Rattle.intaglio_records.specs.Entries.{entries, position, slot_of}
 use Rattle.intaglio_records.proofs.EntryLemmas.{entry-more}
 use Rattle.intaglio_records.proofs.entries.remove_behind.Goals as goal
 

@@ -1,7 +1,5 @@
-use Rattle.std.proofs.lemmas.Grind.{common_steps}
+use Rattle.intaglio_records.proofs.Common.{common_steps, cases_lt, length-append, get_or_append_left}
 use Rattle.std.proofs.Common.{[], ◌∷◌, length, ap, ◌∙◌, arith}
-use Rattle.std.proofs.lemmas.Bool.{cases_lt}
-use Rattle.std.proofs.lemmas.List.{length-append, get_or_append_left}
 use Rattle.intaglio_records.proofs.lines.empty_lines.Goals as goal
 
 pub loop-i-preserved : goal.loop-i-preserved

@@ -1,7 +1,5 @@
 use Rattle.std.proofs.Common.{◌≡◌, ◌∙◌, ap, map, length, []}
-use Rattle.std.proofs.lemmas.List.{length-map}
-use Rattle.intaglio_symbol.specs.AllSymbols.{numbers_from}
-use Rattle.intaglio_interner.specs.Issue.{issue_from}
+use Rattle.intaglio.proofs.Common.{length-map, numbers_from, issue_from}
 use Rattle.intaglio_interner.proofs.Each.{keys-seen}
 use Rattle.intaglio.proofs.Numbered.{numbered}
 use Rattle.intaglio.proofs.table.TableOver.from_slice.Goals as goal

@@ -1,8 +1,5 @@
-use Rattle.std.proofs.lemmas.Grind.{common_steps}
+use Rattle.intaglio_packed.proofs.Common.{common_steps, map-append, record_room_of, same_pairs, over_same}
 use Rattle.std.proofs.Common.{◌≡◌, ℕ, List, [], ◌∷◌, ◌++◌, sym, ◌∙◌, arith}
-use Rattle.std.proofs.lemmas.List.{map-append}
-use Rattle.intaglio_records.specs.Records.{record_room_of}
-use Rattle.intaglio_records.proofs.IndexLemmas.{same_pairs, over_same}
 use Rattle.intaglio_packed.proofs.packed_index.RecordIndexIndexOfPacked.push.Goals as goal
 
 pub returns-clause-over : goal.returns-clause-over

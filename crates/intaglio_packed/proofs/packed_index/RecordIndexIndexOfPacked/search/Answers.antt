@@ -1,17 +1,11 @@
-use Rattle.std.proofs.lemmas.Grind.{common_steps}
+use Rattle.intaglio_packed.proofs.Common.{common_steps, length-map, slice_get-map, slice_get_within, Key, IsLeft, hashes_of, strings_of, IsSearching, compared-as, ends, finds, goes_on, none_passed}
 use Rattle.std.proofs.Common.{◌≡◌, ◌<◌, ℕ, List, ◌∷◌, length, map, sym, refl, arith, ◌∙◌, Some, None, true}
-use Rattle.std.proofs.lemmas.List.{length-map}
-use Rattle.std.proofs.lemmas.Option.{slice_get-map, slice_get_within}
 use Rattle.std.proofs.lemmas.Simd.{map-map}
-use Rattle.intaglio_content.specs.Key.{Key}
 use Rattle.intaglio_content.specs.Store.{IsCompared}
 use Rattle.intaglio_content.specs.Work.{Event}
 use Rattle.intaglio_interner.specs.Cost.{Adds}
 use Rattle.intaglio_interner.specs.State.{first}
-use Rattle.intaglio_records.specs.Matches.{IsLeft}
-use Rattle.intaglio_records.specs.Records.{hashes_of, strings_of}
 use Rattle.intaglio_core.specs.IndexOf.{AreHashed, LookupCost}
-use Rattle.intaglio_core.proofs.Numbered.{IsSearching, compared-as, ends, finds, goes_on, none_passed}
 use Rattle.intaglio_packed.proofs.EqualHashes.{equal-hashes}
 use Rattle.intaglio_packed.proofs.packed_index.RecordIndexIndexOfPacked.search.Given.{Over}
 use Rattle.intaglio_packed.proofs.packed_index.RecordIndexIndexOfPacked.search.Goals as goal

@@ -1,6 +1,5 @@
 use Rattle.std.proofs.Common.{[], length, ◌<◌}
-use Rattle.std.proofs.lemmas.Option.{slice_get-get_or}
-use Rattle.intaglio_records.specs.Records.{strings_of}
+use Rattle.intaglio_packed.proofs.Common.{slice_get-get_or, strings_of}
 use Rattle.intaglio_packed.proofs.packed_store.PackedSpellingStore.is_spelling_at.Goals as goal
 
 pub returns : goal.returns

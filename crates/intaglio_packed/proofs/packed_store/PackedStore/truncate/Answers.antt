@@ -1,7 +1,5 @@
 use Rattle.std.proofs.Common.{ℕ, List, sym}
-use Rattle.std.proofs.lemmas.List.{take-map}
-use Rattle.std.proofs.lemmas.List.Elements.{All-take}
-use Rattle.intaglio_records.specs.Records.{strings_of}
+use Rattle.intaglio_packed.proofs.Common.{take-map, All-take, strings_of}
 use Rattle.intaglio_packed.proofs.packed_store.PackedStore.truncate.Goals as goal
 
 pub invariant_of-self : goal.invariant_of-self

@@ -1,12 +1,5 @@
 use Rattle.std.proofs.Common.{◌≤◌, ◌^◌, length, map, refl, arith, ap}
-use Rattle.std.specs.List.{concat}
-use Rattle.std.proofs.lemmas.List.{length-map}
-use Rattle.std.proofs.lemmas.List.Sorted.{All-permutation}
-use Rattle.intaglio_records.specs.Chains.{IsFilled}
-use Rattle.intaglio_records.specs.Search.{candidates, slots_of}
-use Rattle.intaglio_records.specs.Records.{pair_of}
-use Rattle.intaglio_records.specs.Entries.{entries}
-use Rattle.intaglio_records.specs.Matches.{IsSlot, begin_of, numbers_with}
+use Rattle.intaglio_records.proofs.Common.{concat, length-map, All-permutation, IsFilled, candidates, slots_of, pair_of, entries, IsSlot, begin_of, numbers_with}
 use Rattle.intaglio_records.proofs.EntryLemmas.{entries-all}
 use Rattle.intaglio_records.proofs.MatchLemmas.{all-found, slots-all}
 use Rattle.intaglio_records.proofs.RecordLemmas.{are-long}

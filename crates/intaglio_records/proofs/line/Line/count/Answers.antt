@@ -1,8 +1,5 @@
-use Rattle.std.proofs.lemmas.Grind.{common_steps}
+use Rattle.intaglio_records.proofs.Common.{common_steps, bit_at, trailing_zeros, bit_at-trailing_zeros, cases_order}
 use Rattle.std.proofs.Common.{◌≡◌, ◌<◌, ◌==◌, cond, length, arith, w64, ap, ◌∙◌}
-use Rattle.std.specs.Int.{bit_at, trailing_zeros}
-use Rattle.std.proofs.lemmas.Nat.Bits.{bit_at-trailing_zeros}
-use Rattle.std.proofs.lemmas.Bool.{cases_order}
 use Rattle.intaglio_records.proofs.LineLemmas.{entry-tag}
 use Rattle.intaglio_records.proofs.line.Line.count.Goals as goal
 

@@ -1,6 +1,5 @@
-use Rattle.std.proofs.lemmas.Grind.{common_steps}
+use Rattle.intaglio_records.proofs.Common.{common_steps, first_line, overflow, newest}
 use Rattle.std.proofs.Common.{◌≡◌, ◌<◌, length, arith, mod-lt}
-use Rattle.intaglio_records.specs.Chains.{first_line, overflow, newest}
 use Rattle.intaglio_records.proofs.LineLemmas.{tag-some}
 use Rattle.intaglio_records.proofs.Placing.{first-is}
 use Rattle.intaglio_records.proofs.Searching.{bits-within, picked-fresh}

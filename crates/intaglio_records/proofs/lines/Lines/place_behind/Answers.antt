@@ -1,9 +1,5 @@
-use Rattle.std.proofs.lemmas.Grind.{common_steps}
+use Rattle.intaglio_records.proofs.Common.{common_steps, newest, overflow, no_line, IsFilled, Entry, IsLine, Line, Lines}
 use Rattle.std.proofs.Common.{◌≡◌, ℕ, ◌%◌, ◌<◌, List, ◌∷◌, length, get_or, refl, arith, mod-lt}
-use Rattle.intaglio_records.specs.Chains.{newest, overflow, no_line, IsFilled}
-use Rattle.intaglio_records.specs.Line.{Entry, IsLine}
-use Rattle.intaglio_records.specs.declared.line.Line.{Line}
-use Rattle.intaglio_records.specs.declared.lines.Lines.{Lines}
 use Rattle.intaglio_records.proofs.ChainLemmas.{read-line}
 use Rattle.intaglio_records.proofs.Tops.{length-none}
 use Rattle.intaglio_records.proofs.Placing.{place-add, first-is, newest-in, other-is, refilled}

@@ -1,6 +1,5 @@
-use Rattle.std.proofs.lemmas.Grind.{common_steps}
+use Rattle.intaglio_records.proofs.Common.{common_steps, get_or_append_left}
 use Rattle.std.proofs.Common.{◌≡◌, ◌<◌, [], ◌∷◌, length, get_or, refl, ap, ◌∙◌, arith, mod-lt}
-use Rattle.std.proofs.lemmas.List.{get_or_append_left}
 use Rattle.intaglio_records.proofs.Placing.{place-new, all-full, first-is, refilled}
 use Rattle.intaglio_records.proofs.lines.Lines.place_in_new.Goals as goal
 

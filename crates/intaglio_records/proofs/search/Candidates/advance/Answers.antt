@@ -1,8 +1,5 @@
-use Rattle.std.proofs.lemmas.Grind.{common_steps}
+use Rattle.intaglio_records.proofs.Common.{common_steps, bit_at, bit_at-zero, newest, no_line}
 use Rattle.std.proofs.Common.{length, get_or, ap, ◌∙◌, arith}
-use Rattle.std.specs.Int.{bit_at}
-use Rattle.std.proofs.lemmas.Nat.Bits.{bit_at-zero}
-use Rattle.intaglio_records.specs.Chains.{newest, no_line}
 use Rattle.intaglio_records.proofs.ChainLemmas.{newest-at}
 use Rattle.intaglio_records.proofs.Searching.{next-line, next-inside, picked-none, picked-fresh}
 use Rattle.intaglio_records.proofs.search.Candidates.advance.Goals as goal

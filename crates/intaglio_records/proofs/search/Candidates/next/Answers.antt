@@ -1,9 +1,6 @@
-use Rattle.std.proofs.lemmas.Grind.{common_steps}
+use Rattle.intaglio_records.proofs.Common.{common_steps, bit_at, trailing_zeros, bit_at-zero, bit_at-trailing_zeros, bit_at_clear_same, bit_at_clear_other, no_line, overflow_slots, picked}
 use Rattle.std.proofs.Common.{◌≡◌, ◌≢◌, ℕ, ◌-◌, ◌*◌, ◌%◌, ◌^◌, ◌<◌, ◌++◌, get_or, refl, arith, w64, bit_and}
-use Rattle.std.specs.Int.{bit_at, trailing_zeros}
-use Rattle.std.proofs.lemmas.Nat.Bits.{bit_at-zero, bit_at-trailing_zeros, bit_at_clear_same, bit_at_clear_other}
-use Rattle.intaglio_records.specs.Chains.{no_line}
-use Rattle.intaglio_records.specs.Search.{overflow_slots, picked, most_left}
+use Rattle.intaglio_records.specs.Search.{most_left}
 use Rattle.intaglio_records.proofs.Searching.{picked-none, picked-first, overflow-none, bits-few, bits-fewer}
 use Rattle.intaglio_records.proofs.search.Candidates.next.Goals as goal
 

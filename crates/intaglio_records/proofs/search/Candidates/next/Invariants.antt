@@ -1,5 +1,6 @@
 use Rattle.std.proofs.Common.{◌≤◌}
-use Rattle.intaglio_records.specs.Search.{IsSearch, LeavesAll, most_left}
+use Rattle.intaglio_records.proofs.Common.{IsSearch, LeavesAll}
+use Rattle.intaglio_records.specs.Search.{most_left}
 use Rattle.intaglio_records.proofs.search.Candidates.next.Given as goal
 
 abbrev pub invariant-loop-self : goal.invariant-loop-self
