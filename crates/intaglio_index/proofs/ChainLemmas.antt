@@ -21,17 +21,17 @@ pub Each-weaker : {X : Type 0} (P Q : X → Type 0) → ((x : X) → P x → Q x
 Each-weaker P Q f [] h = tt
 Each-weaker P Q f (x ∷ xs) h = (f x h.0, Each-weaker P Q f xs h.1)
 
--- what holds of each element of an append holds of each of the first list
-pub Each-left : {X : Type 0} (P : X → Type 0) (xs ys : List X) → AllByRecursion P (xs ++ ys) →
-    AllByRecursion P xs
-Each-left P [] ys h = tt
-Each-left P (x ∷ xs) ys h = (h.0, Each-left P xs ys h.1)
-
 -- what holds of each element of an append holds of each of the second list
 pub Each-right : {X : Type 0} (P : X → Type 0) (xs ys : List X) → AllByRecursion P (xs ++ ys) →
     AllByRecursion P ys
 Each-right P [] ys h = h
 Each-right P (x ∷ xs) ys h = Each-right P xs ys h.1
+
+-- what holds of each symbol holds of that of an entry
+pub symbol_at : (P : ℕ → Type 0) (front : List (ℕ × ℕ)) (e : ℕ × ℕ) (behind : List (ℕ × ℕ)) →
+    AllByRecursion P (symbols_of (front ++ e ∷ behind)) → P e.0
+symbol_at P [] e behind h = h.0
+symbol_at P (x ∷ front) e behind h = symbol_at P front e behind h.1
 
 -- what holds of each element of two lists holds of each of their append
 pub Each-append : {X : Type 0} (P : X → Type 0) (xs ys : List X) → AllByRecursion P xs → AllByRecursion P ys →
@@ -124,6 +124,12 @@ chain_from-each count b all before (h ∷ hs) met e a =
 pub chain-each : (count b : ℕ) (hs : List ℕ) →
     AllByRecursion (IsEntry count b hs) (chain_from count b 0 [] hs)
 chain-each count b hs = chain_from-each count b hs [] hs [] refl tt
+
+-- from an entry on, each entry of a chain is one of its bucket
+pub chain-entry : (count b : ℕ) (hs : List ℕ) (front : List (ℕ × ℕ)) (e : ℕ × ℕ) (behind : List (ℕ × ℕ)) →
+    chain_from count b 0 [] hs ≡ front ++ e ∷ behind → AllByRecursion (IsEntry count b hs) (e ∷ behind)
+chain-entry count b hs front e behind split =
+    Each-right (IsEntry count b hs) front (e ∷ behind) (rw split at (chain-each count b hs))
 
 -- a chain has the places of its bucket
 insert_sorted-permutation : (s h : ℕ) (es : List (ℕ × ℕ)) →
@@ -249,12 +255,6 @@ chain-sorted v b = sorted-from-order _ (chain_from-in_order v.count b 0 [] v.has
 pub chain-in_order : (v : Placed) (b : ℕ) → InOrder (chain v b)
 unfolding chain
 chain-in_order v b = chain_from-in_order v.count b 0 [] v.hashes tt
-
--- behind an entry no hash is smaller
-pub InOrder-behind : (front : List (ℕ × ℕ)) (e : ℕ × ℕ) (behind : List (ℕ × ℕ)) →
-    InOrder (front ++ e ∷ behind) → AllByRecursion (λ (f : ℕ × ℕ). e.1 ≤ f.1) behind
-InOrder-behind [] e behind o = o.0
-InOrder-behind (x ∷ front) e behind o = InOrder-behind front e behind o.1
 
 -- each entry of a bucket's chain is a placed symbol of the bucket with its hash
 pub chain-entries : (v : Placed) (b : ℕ) → AllByRecursion (IsEntry v.count b v.hashes) (chain v b)

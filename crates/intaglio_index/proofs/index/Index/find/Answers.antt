@@ -1,5 +1,5 @@
 use Rattle.std.proofs.lemmas.Grind.{common_steps}
-use Rattle.std.proofs.Common.{◌≡◌, ◌<◌, ◌+◌, ◌%◌, length, sym, ap, ◌∙◌, arith, inr}
+use Rattle.std.proofs.Common.{◌≡◌, ◌+◌, length, sym, ap, ◌∙◌, arith, inr}
 use Rattle.intaglio_index.specs.Placed.{Placed}
 use Rattle.intaglio_index.proofs.FilterLemmas.{marked-some}
 use Rattle.intaglio_index.proofs.HeadLemmas.{is_occupied, second_within}

@@ -1,7 +1,7 @@
 use Rattle.std.proofs.lemmas.Grind.{common_steps}
-use Rattle.std.proofs.Common.{◌≡◌, ℕ, List, [], ◌∷◌, ◌++◌, ◌<◌, ◌+◌, ◌%◌, length, sym, ap, ◌∙◌, arith, inl}
+use Rattle.std.proofs.Common.{◌≡◌, ℕ, List, ◌+◌, ◌%◌, length, sym, ap, ◌∙◌, arith, inl}
 use Rattle.std.proofs.lemmas.Bool.{eqb-false}
-use Rattle.intaglio_content.specs.Work.{Event, step}
+use Rattle.intaglio_content.specs.Work.{Event}
 use Rattle.intaglio_index.specs.Placed.{Placed, bucket_of}
 use Rattle.intaglio_index.specs.Found.{IsFound, IsReached}
 use Rattle.intaglio_index.proofs.FilterLemmas.{marked-some}

@@ -1,5 +1,5 @@
 use Rattle.std.proofs.lemmas.Grind.{common_steps}
-use Rattle.std.proofs.Common.{◌≡◌, ◌%◌, [], ◌∙◌, arith}
+use Rattle.std.proofs.Common.{arith}
 use Rattle.std.proofs.lemmas.Bool.{eqb-true}
 use Rattle.intaglio_index.proofs.ChainLemmas.{chain-bucket, none-placed}
 use Rattle.intaglio_index.proofs.LinkLemmas.{no_buckets}
