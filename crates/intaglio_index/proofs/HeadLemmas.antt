@@ -1,12 +1,19 @@
 -- What the words of a bucket's head tell, and how they change.
-use Rattle.std.proofs.Common.{◌≡◌, ◌≢◌, ◌↔◌, ◌⊎◌, ℕ, ◌/◌, ◌%◌, ◌<◌, ◌≤◌, List, [], ◌∷◌, ◌++◌, length, get_or, set, Option, Some, None, Bool, true, false, not, refl, sym, ap, ◌∙◌, arith, eqb, inl, inr, length-append}
+use Rattle.std.proofs.Common.{◌≡◌, ◌≢◌, ◌↔◌, ◌⊎◌, ℕ, ◌+◌, ◌^◌, ◌/◌, ◌%◌, ◌<◌, ◌≤◌, take, List, [], ◌∷◌, ◌++◌, length, get_or, set, Option, Some, None, Bool, true, false, not, refl, sym, ap, ◌∙◌, arith, eqb, inl, inr, length-append}
 use Rattle.std.specs.List.{AllByRecursion, IsDistinct}
 use Rattle.std.specs.Option.{is_some}
 use Rattle.std.proofs.lemmas.Bool.{eqb-false, cases_lt, true≢false, false≢true}
 use Rattle.std.proofs.lemmas.Bool.Decides.{eqb_tells}
 use Rattle.std.proofs.lemmas.List.{get_or-set_same, get_or-set_other, length-set, set-get_or, map-append, get_or_read}
 use Rattle.intaglio_index.specs.declared.index.head.Head.{Head}
-use Rattle.intaglio_index.specs.Links.{IsThread, next_of}
+use Rattle.intaglio_symbol.specs.declared.symbol.Symbol.{Symbol}
+use Rattle.intaglio_index.specs.declared.index.modulus.Modulus.{Modulus}
+use Rattle.intaglio_index.specs.Filter.{IsFiltered, IsMarked}
+use Rattle.intaglio_index.specs.Modulus.{IsModulus}
+use Rattle.intaglio_index.specs.Links.{IsThread, IsLinked, next_of}
+use Rattle.intaglio_index.proofs.FilterLemmas.{filtered-push, filtered-take, filtered-vacated, marked-some}
+use Rattle.intaglio_index.proofs.LinkLemmas.{others_stay}
+use Rattle.std.proofs.lemmas.Grind.{common_steps}
 use Rattle.intaglio_index.specs.Placed.{Placed, chain, IsEntry, chain_from, first_symbol_of, symbols_of, insert_sorted, BeginsAtOrAbove, IsPredecessor}
 use Rattle.intaglio_index.specs.Heads.{IsWord, IsHead, IsHeaded}
 use Rattle.intaglio_index.proofs.ChainLemmas.{put-some, put-behind, insert_sorted-between, chain-grows, chain-stays, Each-right, Each-weaker, InOrder, chain-in_order, chain-entries}
@@ -98,11 +105,9 @@ module _ (size s h word : ℕ) (is_word : IsWord size (s, h) word) where
       (rw pred.split at leads) other)
 
 -- in an empty bucket nothing stands in front
-pub never_behind : (h : ℕ) (path : List (ℕ × ℕ)) (last : ℕ) → None ≡ first_symbol_of path →
-    IsPredecessor h path last → ⊥
+pub never_behind : (h : ℕ) (path : List (ℕ × ℕ)) (last : ℕ) → path ≡ [] → IsPredecessor h path last → ⊥
 never_behind h path last none pred =
-    (let empty : path ≡ [] = nil_leader path none in
-    let parts : [] ≡ pred.front ++ (last, pred.hash) ∷ pred.behind = sym empty ∙ pred.split in
+    (let parts : [] ≡ pred.front ++ (last, pred.hash) ∷ pred.behind = sym none ∙ pred.split in
     omega (arith, ap length parts, length-append pred.front ((last, pred.hash) ∷ pred.behind)))
 
 -- one bucket changes
@@ -240,39 +245,52 @@ pub record IsOccupied (v : Placed) (k size : ℕ) (head : Head) : Type 0 where
   pub split : chain v k ≡ e ∷ es
   pub is : IsHead size head (e ∷ es)
 
-module _ (v : Placed) (heads : List Head) (filters : List ℕ) (size k : ℕ) (count : v.count ≡ length heads)
-    (sizes : length filters ≡ length heads) (headed : IsHeaded size heads filters v.hashes)
-    (within : k < length heads) where
-  pub empty_bucket_at : (get_or filters k 0 ≡ 0) ↔ (chain v k ≡ [])
+-- what holds of the fields of an index
+abbrev pub Holds : Modulus → List Head → List ℕ → List ℕ → List Symbol → Type 0
+Holds m heads filters hashes links = record {
+  modulus : IsModulus m;
+  counted : m.count ≡ length heads;
+  linked : IsLinked (length heads) hashes links;
+  headed : IsHeaded (m.mask + 1) heads filters hashes;
+  filtered : IsFiltered filters (length heads) hashes;
+}
+
+module _ {v : Placed} {m : Modulus} {heads : List Head} {filters hashes : List ℕ} {links : List Symbol}
+    {room : ℕ} (view : ◌≡◌ {A = Placed} (record { count = length heads; hashes = hashes; room = room }) v)
+    (holds : Holds m heads filters hashes links) where
+  pub count_is : v.count ≡ length heads
+  count_is = ap (λ (v : Placed). v.count) (sym view)
+
+  pub numbered : length v.hashes ≤ 2 ^ 32
+  numbered = rw (← view) holds.linked.numbered
+
+  empty_bucket_at : (k : ℕ) → k < v.count → (get_or filters k 0 ≡ 0) ↔ (chain v k ≡ [])
   unfolding chain
-  empty_bucket_at = rw count (headed.empty_bucket k within)
+  empty_bucket_at k within = rw (← view) (holds.headed.empty_bucket k (omega (arith, count_is, within)))
 
-  words_at : IsHead size (get_or heads k no_head) (chain v k)
+  words_at : (k : ℕ) → k < v.count → IsHead (m.mask + 1) (get_or heads k no_head) (chain v k)
   unfolding chain
-  words_at = rw count (headed.words k within)
+  words_at k within = rw (← view) (holds.headed.words k (omega (arith, count_is, within)))
 
-  pub is_vacant : (filter : ℕ) → filter ≡ get_or filters k filter → filter ≡ 0 → chain v k ≡ []
-  is_vacant filter read none =
-      let lf : k < length filters = omega arith in
-      empty_bucket_at.0 (sym (get_or_read filters k filter lf read 0) ∙ none)
+  pub is_vacant : (k filter : ℕ) → k < v.count → filter ≡ get_or filters k filter → filter ≡ 0 → chain v k ≡ []
+  is_vacant k filter within read none = (empty_bucket_at k within).0
+      (sym (get_or_read filters k filter (omega (arith, count_is, holds.filtered.size)) read 0) ∙ none)
 
-  pub is_occupied : (head : Head) (filter : ℕ) → head ≡ get_or heads k head →
-      filter ≡ get_or filters k filter → (filter ≡ 0 → ⊥) → IsOccupied v k size head
-  is_occupied head filter read_head read some =
-      let lf : k < length filters = omega arith in
-      let parts =
-      some_entries (chain v k)
-      (λ none. some (get_or_read filters k filter lf read 0 ∙ empty_bucket_at.1 none)) in
-      let same : head ≡ get_or heads k no_head = get_or_read heads k head within read_head no_head in
-      record { e = parts.0; es = parts.1; split = parts.2; is = rw (← same, parts.2) at words_at }
-
-  -- the same where the bucket is known to have a symbol
-  pub is_occupied_by : (head : Head) → head ≡ get_or heads k head → (chain v k ≡ [] → ⊥) →
-      IsOccupied v k size head
-  is_occupied_by head read_head some =
+  -- where the bucket is known to have a symbol
+  pub is_occupied_by : (k : ℕ) (head : Head) → k < v.count → head ≡ get_or heads k head →
+      (chain v k ≡ [] → ⊥) → IsOccupied v k (m.mask + 1) head
+  is_occupied_by k head within read some =
       let parts = some_entries (chain v k) some in
-      let same : head ≡ get_or heads k no_head = get_or_read heads k head within read_head no_head in
-      record { e = parts.0; es = parts.1; split = parts.2; is = rw (← same, parts.2) at words_at }
+      let same : head ≡ get_or heads k no_head =
+      get_or_read heads k head (omega (arith, count_is)) read no_head in
+      record { e = parts.0; es = parts.1; split = parts.2; is = rw (← same, parts.2) at (words_at k within) }
+
+  pub is_occupied : (k : ℕ) (head : Head) (filter : ℕ) → k < v.count → head ≡ get_or heads k head →
+      filter ≡ get_or filters k filter → (filter ≡ 0 → ⊥) → IsOccupied v k (m.mask + 1) head
+  is_occupied k head filter within read_head read some =
+      is_occupied_by k head within read_head (λ none.
+      some (get_or_read filters k filter (omega (arith, count_is, holds.filtered.size)) read 0
+      ∙ (empty_bucket_at k within).1 none))
 
 module _ (v : Placed) (k size : ℕ) (head : Head) (o : IsOccupied v k size head) where
   pub order : InOrder (o.e ∷ o.es)
@@ -298,28 +316,82 @@ module _ (v : Placed) (k size : ℕ) (head : Head) (o : IsOccupied v k size head
   pub second_within : head.second % size < length v.hashes
   second_within = second_in o.es o.is entries
 
--- a head that was read
-pub head_read : (size : ℕ) (heads : List Head) (filters hashes : List ℕ) (k : ℕ) (head : Head) →
-    IsHeaded size heads filters hashes → k < length heads → head ≡ get_or heads k head →
-    IsHead size head (chain_from (length heads) k 0 [] hashes)
-head_read size heads filters hashes k head headed within read =
-    rw (← get_or_read heads k head within read no_head) at (headed.words k within)
+module _ {m : Modulus} {heads : List Head} {filters hashes : List ℕ} {links : List Symbol}
+    (holds : Holds m heads filters hashes links) where
+  -- a head that was read
+  pub head_read : (k : ℕ) (head : Head) → k < length heads → head ≡ get_or heads k head →
+      IsHead (m.mask + 1) head (chain_from (length heads) k 0 [] hashes)
+  head_read k head within read =
+      rw (← get_or_read heads k head within read no_head) at (holds.headed.words k within)
 
--- one hash more
-pub headed_pushed : (size : ℕ) (heads : List Head) (filters hashes : List ℕ) (hash : ℕ) (head : Head)
-    (filter : ℕ) → hash % length heads < length heads → length filters ≡ length heads →
-    IsHeaded size heads filters hashes → (filter ≡ 0 → ⊥) →
-    IsHead size head
-    (insert_sorted (length hashes) hash (chain_from (length heads) (hash % length heads) 0 [] hashes)) →
-    IsHeaded size (set heads (hash % length heads) head) (set filters (hash % length heads) filter)
-    (hashes ++ hash ∷ [])
-headed_pushed size heads filters hashes hash head filter within sizes headed some is =
-    let grows = chain-grows (length heads) hashes hash in
-    headed_changed size heads filters hashes (hashes ++ hash ∷ []) (hash % length heads) within sizes
-    (λ b other. chain-stays (length heads) b hashes hash other) headed head filter
-    (neither some
-    (λ e. put-some (length hashes) hash (chain_from (length heads) (hash % length heads) 0 [] hashes)
-    (sym grows ∙ e))) (rw grows is)
+  -- one hash more
+  pub holds_pushed : (hash mark filter : ℕ) (head : Head) (after : List Symbol) →
+      hash % length heads < length heads → filter ≡ get_or filters (hash % length heads) filter →
+      IsMarked mark hash → ((other : ℕ) → IsMarked filter other → IsMarked mark other) →
+      IsHead (m.mask + 1) head
+      (insert_sorted (length hashes) hash (chain_from (length heads) (hash % length heads) 0 [] hashes)) →
+      IsLinked (length heads) (hashes ++ hash ∷ []) after →
+      Holds m (set heads (hash % length heads) head) (set filters (hash % length heads) mark)
+      (hashes ++ hash ∷ []) after
+  holds_pushed hash mark filter head after within read marked kept is linked =
+      let k : ℕ = hash % length heads in
+      let lf : k < length filters = omega (arith, holds.filtered.size) in
+      let same = get_or_read filters k filter lf read 0 in
+      let size = length-set heads k head in
+      let grows = chain-grows (length heads) hashes hash in
+      record {
+        modulus = holds.modulus;
+        counted = holds.counted ∙ sym size;
+        linked = rw size linked;
+        headed = headed_changed (m.mask + 1) heads filters hashes (hashes ++ hash ∷ []) k within
+            holds.filtered.size
+            (λ b other. chain-stays (length heads) b hashes hash other) holds.headed head mark
+            (neither (marked-some mark hash marked)
+            (λ e. put-some (length hashes) hash (chain_from (length heads) k 0 [] hashes) (sym grows ∙ e)))
+            (rw grows is);
+        filtered = rw size (filtered-push filters (length heads) hashes hash mark holds.filtered within marked
+            (λ other m. kept other (rw (← same) at m)));
+      }
+
+  -- the last hash was taken out
+  module _ (hash i : ℕ) (last : i + 1 ≡ length hashes) (read : hash ≡ get_or hashes i hash) where
+    within : hash % length heads < length heads
+    within = omega (arith, last, holds.linked.few)
+
+    -- its bucket has a filter
+    marked : get_or filters (hash % length heads) 0 ≡ 0 → ⊥
+    marked none = grind (arith, common_steps)
+
+    -- and has no symbol left
+    pub holds_vacated : (after : List Symbol) → IsLinked (length heads) (take i hashes) after →
+        chain_from (length heads) (hash % length heads) 0 [] (take i hashes) ≡ [] →
+        Holds m heads (set filters (hash % length heads) 0) (take i hashes) after
+    holds_vacated after linked empty = record {
+      modulus = holds.modulus;
+      counted = holds.counted;
+      linked = linked;
+      headed = headed_filter _ _ _ _ _ _ within holds.filtered.size (others_stay holds.linked hash i last read)
+          holds.headed 0 (λ e. empty, λ e. refl) (rw empty tt);
+      filtered = filtered-vacated _ _ _ _ (filtered-take _ _ _ i holds.filtered) empty;
+    }
+
+    -- and begins with this symbol
+    pub holds_read : (after : List Symbol) (head : Head) (first : Symbol) →
+        IsLinked (length heads) (take i hashes) after →
+        Some first ≡ first_symbol_of (chain_from (length heads) (hash % length heads) 0 [] (take i hashes)) →
+        IsHead (m.mask + 1) head (chain_from (length heads) (hash % length heads) 0 [] (take i hashes)) →
+        Holds m (set heads (hash % length heads) head) filters (take i hashes) after
+    holds_read after head first linked leads is =
+        let size = length-set heads (hash % length heads) head in
+        record {
+          modulus = holds.modulus;
+          counted = holds.counted ∙ sym size;
+          linked = rw size linked;
+          headed = headed_head _ _ _ _ _ _ within holds.filtered.size
+              (others_stay holds.linked hash i last read) holds.headed head
+              (neither marked (led_some _ _ leads)) is;
+          filtered = rw size (filtered-take _ _ _ i holds.filtered);
+        }
 
 -- whether a bucket has no symbol
 pub alone_is : (path : List (ℕ × ℕ)) (first_symbol : Option ℕ) (alone : Bool) →

@@ -115,7 +115,7 @@ none_left : (hashes : List ℕ) → length hashes ≤ 0 → hashes ≡ []
 none_left [] l = refl
 none_left (h ∷ hs) l = absurd (omega arith)
 
-module _ (count : ℕ) (hashes : List ℕ) (links : List Symbol) (linked : IsLinked count hashes links) where
+module _ {count : ℕ} {hashes : List ℕ} {links : List Symbol} (linked : IsLinked count hashes links) where
   -- where there are no buckets nothing is placed
   pub no_buckets : count ≡ 0 → hashes ≡ []
   no_buckets none = none_left hashes (omega (arith, linked.few))
@@ -134,8 +134,9 @@ module _ (count : ℕ) (hashes : List ℕ) (links : List Symbol) (linked : IsLin
   pub first_reads : (b : ℕ) → option_map (entry_of hashes) (first_symbol_of (bucket b)) ≡ head_of (bucket b)
   first_reads b = read_path _ b (bucket b) (chain-each count b hashes) (linked.paths b)
 
-  pub thread_of : (b : ℕ) → IsThread hashes links (first_symbol_of (bucket b)) (bucket b)
-  thread_of b = record {
+  pub thread_of : (b : ℕ) (first : Symbol) → Some first ≡ first_symbol_of (bucket b) →
+      IsThread hashes links (Some first) (bucket b)
+  thread_of b first leads = rw leads record {
     path = linked.paths b;
     read = Each-weaker (IsEntry count b hashes) (λ (e : ℕ × ℕ). (e.0 < length hashes)
         × (get_or hashes e.0 0 ≡ e.1)) (λ e h. (h.0, h.1 0)) _ (chain-each count b hashes);

@@ -1,26 +1,19 @@
 use Rattle.std.proofs.lemmas.Grind.{common_steps}
-use Rattle.std.proofs.Common.{◌≡◌, ◌+◌, length, sym, ap, ◌∙◌, arith, inr}
-use Rattle.intaglio_index.specs.Placed.{Placed}
+use Rattle.std.proofs.Common.{◌≡◌, ◌+◌, sym, ◌∙◌, arith, inr}
 use Rattle.intaglio_index.proofs.FilterLemmas.{marked-some}
-use Rattle.intaglio_index.proofs.HeadLemmas.{is_occupied, second_within}
+use Rattle.intaglio_index.proofs.HeadLemmas.{count_is, numbered, is_occupied, second_within}
 use Rattle.intaglio_index.proofs.SearchLemmas.{IsRead, head_absent, head_behind, word_first, word_second, word_within, two_steps}
 use Rattle.intaglio_index.proofs.index.Index.find.Goals as goal
 use Rattle.intaglio_index.proofs.index.Index.find.Goals.{After-agrees}
 
-count_is : (c : After-agrees) → c.args.self.now.count ≡ length c.self.inside.heads.items
-count_is c = ap (λ (v : Placed). v.count) (sym c.self.view_is)
-
-placed_is : (c : After-agrees) → length c.args.self.now.hashes ≡ length c.self.inside.hashes.items
-placed_is c = ap (λ (v : Placed). length v.hashes) (sym c.self.view_is)
-
 exact : (c : After-agrees) → c.args.self.now.count ≡ c.self.inside.modulus.mask + 1
 exact c =
-    count_is c ∙ sym c.self.invariant.counted ∙ c.is_power_of_two.ensures.0 c.if-not-is_power_of_two.false
+    count_is c.self.view_is c.self.invariant ∙ sym c.self.invariant.counted ∙ c.is_power_of_two.ensures.0 c.if-not-is_power_of_two.false
 
 read : (c : After-agrees) →
     IsRead c.args.self.now c.args.hash (c.self.inside.modulus.mask + 1) c.index-head.result.now
     c.matching_word-word.result
-read c = grind (arith, common_steps, count_is, exact, is_occupied, marked-some)
+read c = grind (arith, common_steps, count_is c.self.view_is c.self.invariant, exact, is_occupied c.self.view_is c.self.invariant, marked-some)
 
 pub returns-then-hash-head-clause-none : goal.returns-then-hash-head-clause-none
 returns-then-hash-head-clause-none c =
@@ -33,7 +26,7 @@ returns-then-hash-head-clause-passed c = λ e. record { more = 0; few = omega ar
 pub symbol-requires-clause-number : goal.symbol-requires-clause-number
 symbol-requires-clause-number c =
     let all = (goal.at.symbol-requires-clause-number c).After-agrees in
-    omega (arith, second_within _ _ _ _ (read all).occupied, placed_is all, c.self.invariant.linked.numbered)
+    omega (arith, second_within _ _ _ _ (read all).occupied, numbered c.self.view_is c.self.invariant, c.self.invariant.linked.numbered)
 
 pub find_behind-requires : goal.find_behind-requires
 find_behind-requires c = grind (arith, common_steps, head_behind, read)
@@ -41,7 +34,7 @@ find_behind-requires c = grind (arith, common_steps, head_behind, read)
 pub symbol_beside-symbol-requires-clause-number : goal.symbol_beside-symbol-requires-clause-number
 symbol_beside-symbol-requires-clause-number c =
     let all = (goal.at.symbol_beside-symbol-requires-clause-number c).After-agrees in
-    omega (arith, word_within _ _ _ _ _ (read all), placed_is all, c.self.invariant.linked.numbered)
+    omega (arith, word_within _ _ _ _ _ (read all), numbered c.self.view_is c.self.invariant, c.self.invariant.linked.numbered)
 
 pub returns-then-word-head-clause-found : goal.returns-then-word-head-clause-found
 returns-then-word-head-clause-found c =

@@ -1,25 +1,19 @@
 use Rattle.std.proofs.lemmas.Grind.{common_steps}
-use Rattle.std.proofs.Common.{◌≡◌, ℕ, List, ◌+◌, ◌%◌, length, sym, ap, ◌∙◌, arith, inl}
+use Rattle.std.proofs.Common.{◌≡◌, ℕ, List, ◌+◌, ◌%◌, length, ap, ◌∙◌, arith, inl}
 use Rattle.std.proofs.lemmas.Bool.{eqb-false}
 use Rattle.intaglio_content.specs.Work.{Event}
 use Rattle.intaglio_index.specs.Placed.{Placed, bucket_of}
 use Rattle.intaglio_index.specs.Found.{IsFound, IsReached}
 use Rattle.intaglio_index.proofs.FilterLemmas.{marked-some}
-use Rattle.intaglio_index.proofs.HeadLemmas.{is_occupied, second_within}
+use Rattle.intaglio_index.proofs.HeadLemmas.{count_is, numbered, is_occupied, second_within}
 use Rattle.intaglio_index.proofs.SearchLemmas.{IsRead, begins, head_absent, head_behind, word_first, word_second, word_within, two_steps, each_some, hash_read}
 use Rattle.intaglio_index.proofs.index.Index.find_by_remainder.Goals as goal
 use Rattle.intaglio_index.proofs.index.Index.find_by_remainder.Goals.{After-agrees, After-first_entry}
 
-count_is : (c : After-agrees) → c.args.self.now.count ≡ length c.self.inside.heads.items
-count_is c = ap (λ (v : Placed). v.count) (sym c.self.view_is)
-
-placed_is : (c : After-agrees) → length c.args.self.now.hashes ≡ length c.self.inside.hashes.items
-placed_is c = ap (λ (v : Placed). length v.hashes) (sym c.self.view_is)
-
 read : (c : After-agrees) →
     IsRead c.args.self.now c.args.hash (c.self.inside.modulus.mask + 1) c.index-head.result.now
     c.matching_word-word.result
-read c = grind (arith, common_steps, count_is, eqb-false, is_occupied, marked-some)
+read c = grind (arith, common_steps, count_is c.self.view_is c.self.invariant, eqb-false, is_occupied c.self.view_is c.self.invariant, marked-some)
 
 pub returns-then-hash-head-clause-none : goal.returns-then-hash-head-clause-none
 returns-then-hash-head-clause-none c =
@@ -32,7 +26,7 @@ returns-then-hash-head-clause-passed c = λ e. record { more = 0; few = omega ar
 pub symbol-requires-clause-number : goal.symbol-requires-clause-number
 symbol-requires-clause-number c =
     let all = (goal.at.symbol-requires-clause-number c).After-agrees in
-    omega (arith, second_within _ _ _ _ (read all).occupied, placed_is all, c.self.invariant.linked.numbered)
+    omega (arith, second_within _ _ _ _ (read all).occupied, numbered c.self.view_is c.self.invariant, c.self.invariant.linked.numbered)
 
 pub find_behind-requires : goal.find_behind-requires
 find_behind-requires c = grind (arith, common_steps, head_behind, read)
@@ -44,12 +38,12 @@ returns-then-not-agrees-clause-passed c =
 pub symbol-symbol-requires-clause-number : goal.symbol-symbol-requires-clause-number
 symbol-symbol-requires-clause-number c =
     let all = (goal.at.symbol-symbol-requires-clause-number c).After-agrees in
-    omega (arith, word_within _ _ _ _ _ (read all), placed_is all, c.self.invariant.linked.numbered)
+    omega (arith, word_within _ _ _ _ _ (read all), numbered c.self.view_is c.self.invariant, c.self.invariant.linked.numbered)
 
 pub index-requires-2 : goal.index-requires-2
 index-requires-2 c =
     let all = (goal.at.index-requires-2 c).After-agrees in
-    omega (arith, word_within _ _ _ _ _ (read all), placed_is all)
+    omega (arith, word_within _ _ _ _ _ (read all), ap (λ (v : Placed). length v.hashes) c.self.view_is)
 
 reached : (c : After-first_entry) →
     IsReached c.args.hash (bucket_of c.args.self.now c.args.hash) c.args.work.now.events

@@ -9,8 +9,7 @@ pub entry-requires : goal.entry-requires
 unfolding chain
 entry-requires c =
     let leads = rw (← c.self.view_is) at c.first_symbol.ensures in
-    λ s e. rw c.deref.ensures.value (leader_within _ c.self.inside.hashes.items c.self.inside.links.items
-    c.self.invariant.linked c.args.bucket s (sym leads ∙ e))
+    λ s e. rw c.deref.ensures.value (leader_within c.self.invariant.linked c.args.bucket s (sym leads ∙ e))
 
 pub returns : goal.returns
 unfolding chain
@@ -18,5 +17,5 @@ returns c =
     let leads = rw (← c.self.view_is) at c.first_symbol.ensures in
     let entry = rw c.deref.ensures.value at c.entry.ensures in
     rw (← c.self.view_is) (entry ∙ ap (option_map (entry_of c.self.inside.hashes.items)) leads
-    ∙ first_reads _ c.self.inside.hashes.items c.self.inside.links.items c.self.invariant.linked
+    ∙ first_reads c.self.invariant.linked
     c.args.bucket)

@@ -8,7 +8,7 @@ entry-requires c =
     let within : c.args.symbol < length c.self.inside.hashes.items = rw (← c.self.view_is) at c.requires in
     let next = rw c.deref-2.ensures.value at c.next.ensures in
     λ s e. rw c.deref.ensures.value
-    (link_within _ c.self.inside.hashes.items c.self.inside.links.items c.self.invariant.linked
+    (link_within c.self.invariant.linked
     c.args.symbol s within (sym next ∙ e))
 
 pub returns : goal.returns
@@ -18,6 +18,6 @@ returns c =
     let entry = rw c.deref.ensures.value at c.entry.ensures in
     rw (← c.self.view_is) record {
       next = λ b hash before behind e. entry
-          ∙ after_reads _ c.self.inside.hashes.items c.self.inside.links.items c.self.invariant.linked
+          ∙ after_reads c.self.invariant.linked
           c.args.symbol _ next b hash before behind e;
     }

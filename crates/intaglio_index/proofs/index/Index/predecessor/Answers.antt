@@ -1,37 +1,23 @@
 use Rattle.std.proofs.lemmas.Grind.{common_steps}
-use Rattle.std.proofs.Common.{◌≡◌, ℕ, ◌<◌, ◌+◌, ◌%◌, [], ◌∷◌, ◌++◌, length, sym, ap, ◌∙◌, arith, inl, inr}
-use Rattle.intaglio_index.specs.Placed.{Placed, chain}
-use Rattle.intaglio_index.proofs.HeadLemmas.{IsOccupied, is_vacant, is_occupied, first_within, second_within}
+use Rattle.std.proofs.Common.{◌≡◌, ℕ, ◌<◌, ◌+◌, ◌%◌, ◌∷◌, ◌++◌, sym, ap, ◌∙◌, arith, inl, inr}
+use Rattle.intaglio_index.proofs.HeadLemmas.{IsOccupied, count_is, numbered, is_vacant, is_occupied, first_within, second_within}
 use Rattle.intaglio_index.proofs.SearchLemmas.{begins_above, first_precedes, behind_second}
 use Rattle.intaglio_index.proofs.WalkLemmas.{starts}
 use Rattle.intaglio_index.proofs.index.Index.predecessor.Goals as goal
 use Rattle.intaglio_index.proofs.index.Index.predecessor.Goals.{After-index}
 
-count_is : (c : After-index) → c.args.self.now.count ≡ length c.self.inside.heads.items
-count_is c = ap (λ (v : Placed). v.count) (sym c.self.view_is)
-
-placed_is : (c : After-index) → length c.args.self.now.hashes ≡ length c.self.inside.hashes.items
-placed_is c = ap (λ (v : Placed). length v.hashes) (sym c.self.view_is)
-
 exact : (c : After-index) → c.args.self.now.count ≡ c.self.inside.modulus.mask + 1
 exact c =
-    count_is c ∙ sym c.self.invariant.counted ∙ c.is_power_of_two.ensures.0 c.if-not-is_power_of_two.false
+    count_is c.self.view_is c.self.invariant ∙ sym c.self.invariant.counted ∙ c.is_power_of_two.ensures.0 c.if-not-is_power_of_two.false
 
-within : (c : After-index) → c.args.hash % c.args.self.now.count < length c.self.inside.heads.items
-within c = omega (arith, c.requires.bucket, c.requires.within, count_is c)
-
-empty_bucket : (c : After-index) → c.index.result.now ≡ 0 →
-    chain c.args.self.now (c.args.hash % c.args.self.now.count) ≡ []
-empty_bucket c none =
-    is_vacant c.args.self.now c.self.inside.heads.items c.self.inside.filters.items
-    (c.self.inside.modulus.mask + 1) (c.args.hash % c.args.self.now.count) (count_is c)
-    c.self.invariant.filtered.size (rw (← c.self.view_is) c.self.invariant.headed) (within c)
-    c.index.result.now (rw c.requires.bucket at c.index.ensures) none
+within : (c : After-index) → c.args.hash % c.args.self.now.count < c.args.self.now.count
+within c = rw c.requires.bucket at c.requires.within
 
 occupied : (c : After-index) → (c.index.result.now ≡ 0 → ⊥) →
     IsOccupied c.args.self.now (c.args.hash % c.args.self.now.count) (c.self.inside.modulus.mask + 1)
     c.index-head.result.now
-occupied c some = grind (arith, common_steps, is_occupied, count_is, within)
+occupied c some = is_occupied c.self.view_is c.self.invariant _ _ _ (within c) (rw c.requires.bucket at c.index-head.ensures)
+    (rw c.requires.bucket at c.index.ensures) some
 
 some_size : (n : ℕ) → 0 < n + 1
 some_size n = omega arith
@@ -40,7 +26,7 @@ pub returns-then-index-eq0 : goal.returns-then-index-eq0
 returns-then-index-eq0 c =
     let all = (goal.at.returns-then-index-eq0 c).After-index in
     elim c.then-index-eq0.either [
-      | inl none ↦ rw (empty_bucket all none) tt
+      | inl none ↦ rw (is_vacant c.self.view_is c.self.invariant _ _ (within all) (rw c.requires.bucket at c.index.ensures) none) tt
       | inr p ↦
           begins_above _ _ _ _ (some_size _) (exact all) (occupied all p.0) (rw c.high-high.ensures at p.1)
     ]
@@ -48,7 +34,7 @@ returns-then-index-eq0 c =
 pub symbol-requires-clause-number : goal.symbol-requires-clause-number
 symbol-requires-clause-number c =
     let all = (goal.at.symbol-requires-clause-number c).After-index in
-    omega (arith, first_within _ _ _ _ (occupied all c.if-index-eq0.false), placed_is all)
+    omega (arith, first_within _ _ _ _ (occupied all c.if-index-eq0.false), numbered c.self.view_is c.self.invariant)
 
 pub returns-then-high-head-2 : goal.returns-then-high-head-2
 returns-then-high-head-2 c = grind (arith, common_steps, first_precedes, some_size, exact, occupied)
@@ -56,7 +42,7 @@ returns-then-high-head-2 c = grind (arith, common_steps, first_precedes, some_si
 pub symbol-second-requires-clause-number : goal.symbol-second-requires-clause-number
 symbol-second-requires-clause-number c =
     let all = (goal.at.symbol-second-requires-clause-number c).After-index in
-    omega (arith, second_within _ _ _ _ (occupied all c.if-index-eq0.false), placed_is all)
+    omega (arith, second_within _ _ _ _ (occupied all c.if-index-eq0.false), numbered c.self.view_is c.self.invariant)
 
 pub next_entry-requires : goal.next_entry-requires
 next_entry-requires c =

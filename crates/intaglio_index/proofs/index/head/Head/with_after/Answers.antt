@@ -1,11 +1,11 @@
 use Rattle.std.proofs.Common.{sym, ◌∙◌}
 use Rattle.std.proofs.lemmas.Bool.{eqb-true, eqb-false}
-use Rattle.intaglio_index.proofs.HeadLemmas.{head_second, head_stays, never_behind}
+use Rattle.intaglio_index.proofs.HeadLemmas.{head_second, head_stays, never_behind, nil_leader}
 use Rattle.intaglio_index.proofs.index.head.Head.with_after.Goals as goal
 
 pub returns-in-None : goal.returns-in-None
 returns-in-None c = λ size s h path is leads apart pred word.
-    absurd (never_behind h path c.args.last (sym c.in-None.is ∙ leads) pred)
+    absurd (never_behind h path c.args.last (nil_leader _ (sym c.in-None.is ∙ leads)) pred)
 
 pub returns-then-eq : goal.returns-then-eq
 returns-then-eq c = λ size s h path is leads apart pred word.
