@@ -1,8 +1,8 @@
 -- What the words of a bucket's head tell, and how they change.
-use Rattle.std.proofs.Common.{◌≡◌, ◌≢◌, ◌↔◌, ◌⊎◌, ℕ, ◌+◌, ◌^◌, ◌/◌, ◌%◌, ◌<◌, ◌≤◌, take, List, [], ◌∷◌, ◌++◌, length, get_or, set, Option, Some, None, Bool, true, false, not, refl, sym, ap, ◌∙◌, arith, eqb, inl, inr, length-append}
+use Rattle.std.proofs.Common.{◌≡◌, ◌≢◌, ◌↔◌, ℕ, ◌+◌, ◌^◌, ◌%◌, ◌<◌, ◌≤◌, take, List, [], ◌∷◌, ◌++◌, length, get_or, set, Option, Some, None, Bool, true, false, not, refl, sym, ap, ◌∙◌, arith, eqb, inl, inr, length-append}
 use Rattle.std.specs.List.{AllByRecursion, IsDistinct}
 use Rattle.std.specs.Option.{is_some}
-use Rattle.std.proofs.lemmas.Bool.{eqb-false, cases_lt, true≢false, false≢true}
+use Rattle.std.proofs.lemmas.Bool.{eqb-false, true≢false, false≢true}
 use Rattle.std.proofs.lemmas.Bool.Decides.{eqb_tells}
 use Rattle.std.proofs.lemmas.List.{get_or-set_same, get_or-set_other, length-set, set-get_or, map-append, get_or_read}
 use Rattle.intaglio_index.specs.declared.index.head.Head.{Head}
@@ -16,9 +16,7 @@ use Rattle.intaglio_index.proofs.LinkLemmas.{others_stay}
 use Rattle.std.proofs.lemmas.Grind.{common_steps}
 use Rattle.intaglio_index.specs.Placed.{Placed, chain, IsEntry, chain_from, first_symbol_of, symbols_of, insert_sorted, BeginsAtOrAbove, IsPredecessor}
 use Rattle.intaglio_index.specs.Heads.{IsWord, IsHead, IsHeaded}
-use Rattle.intaglio_index.proofs.ChainLemmas.{put-some, put-behind, insert_sorted-between, chain-grows, chain-stays, Each-right, Each-weaker, InOrder, chain-in_order, chain-entries}
-use Rattle.intaglio_index.proofs.WalkLemmas.{distinct}
-use Rattle.intaglio_index.proofs.Words.{block_below, below_block, word_same}
+use Rattle.intaglio_index.proofs.ChainLemmas.{put-some, put-behind, insert_sorted-between, chain-grows, chain-stays, Each-right, chain-entries}
 
 -- a head whose words are both 0
 abbrev pub no_head : Head
@@ -153,71 +151,6 @@ module _ (size : ℕ) (heads : List Head) (filters hashes later : List ℕ) (k :
   headed_filter filter empty_bucket is =
       rw (set-get_or heads k no_head) at (headed_changed (get_or heads k no_head) filter empty_bucket is)
 
--- a hash beside the first two
-module _ (size : ℕ) (some : 0 < size) (h : ℕ) (head : Head) where
-  -- equal words: there is no second
-  alone : (e : ℕ × ℕ) (es : List (ℕ × ℕ)) → IsDistinct eqb (symbols_of (e ∷ es)) → IsHead size head (e ∷ es) →
-      head.first ≡ head.second → es ≡ []
-  unfolding IsDistinct
-  alone e [] apart is same = refl
-  alone e (f ∷ fs) apart is same =
-      let symbols : e.0 ≡ f.0 = sym is.0.1 ∙ ap (λ w. w % size) same ∙ is.1.1 in
-      absurd (eqb-false e.0 f.0 apart.0.0 symbols)
-
-  first_differs : (e : ℕ × ℕ) (es : List (ℕ × ℕ)) → IsHead size head (e ∷ es) →
-      head.first / size ≢ h / size → e.1 ≢ h
-  first_differs e es is other same = other (is.0.0 ∙ ap (λ n. n / size) same)
-
-  -- where the words show that no symbol has the hash
-  pub none_by_words : (e : ℕ × ℕ) (es : List (ℕ × ℕ)) → IsDistinct eqb (symbols_of (e ∷ es)) →
-      InOrder (e ∷ es) → IsHead size head (e ∷ es) →
-      head.first / size ≢ h / size → head.second / size ≢ h / size →
-      (h < head.second) ⊎ (head.first ≡ head.second) → AllByRecursion (λ (x : ℕ × ℕ). x.1 ≢ h) (e ∷ es)
-  none_by_words e [] apart order is first second end = (first_differs e [] is first, tt)
-  none_by_words e (f ∷ fs) apart order is first second end =
-      elim end [
-        | inl less ↦
-            (let blocks : h / size < head.second / size =
-            below_block size some h head.second less (λ q. second (sym q)) in
-            let above : h < f.1 = block_below size some h f.1 (omega (arith, blocks, is.1.0)) in
-            let rest = Each-weaker (λ (x : ℕ × ℕ). f.1 ≤ x.1) (λ (x : ℕ × ℕ). x.1 ≢ h) (λ x l q. omega arith)
-            fs order.1.0 in
-            (first_differs e (f ∷ fs) is first, ((λ q. omega arith), rest)))
-        | inr same ↦ absurd (let none : f ∷ fs ≡ [] = alone e (f ∷ fs) apart is same in cc)
-      ]
-
-  -- where both of two have smaller hashes
-  pub both_below : (e : ℕ × ℕ) (es : List (ℕ × ℕ)) → InOrder (e ∷ es) → IsHead size head (e ∷ es) →
-      head.second / size ≢ h / size → head.second ≤ h → head.first ≢ head.second →
-      (f : ℕ × ℕ) × (fs : List (ℕ × ℕ)) × (es ≡ f ∷ fs) × (e.1 < h) × (f.1 < h) × (head.second % size ≡ f.0)
-  both_below e [] order is second at_most other =
-      absurd (other (word_same size some e head.first head.second is.0 is.1))
-  both_below e (f ∷ fs) order is second at_most other =
-      let differ : head.second ≢ h = λ q. second (ap (λ n. n / size) q) in
-      let less : head.second < h = omega arith in
-      let blocks : head.second / size < h / size = below_block size some head.second h less second in
-      let below : f.1 < h = block_below size some f.1 h (omega (arith, blocks, is.1.0)) in
-      let order_e : e.1 ≤ f.1 = order.0.0 in
-      (f, fs, refl, omega arith, below, is.1.1)
-
-  -- where the second one agrees with the hash, and the first doesn't
-  pub second_agrees : (e : ℕ × ℕ) (es : List (ℕ × ℕ)) → InOrder (e ∷ es) → IsHead size head (e ∷ es) →
-      head.first / size ≢ h / size → head.second / size ≡ h / size →
-      (f : ℕ × ℕ) × (fs : List (ℕ × ℕ)) × (es ≡ f ∷ fs) × (e.1 < h) × (f.1 / size ≡ h / size)
-      × (head.second % size ≡ f.0)
-  second_agrees e [] order is first second = absurd (first (is.0.0 ∙ sym is.1.0 ∙ second))
-  second_agrees e (f ∷ fs) order is first second =
-      let block : f.1 / size ≡ h / size = sym is.1.0 ∙ second in
-      let order_e : e.1 ≤ f.1 = order.0.0 in
-      let below : e.1 < h = elim (cases_lt (e.1 / size) (h / size)) [
-        | inl less ↦ block_below size some e.1 h less
-        | inr at_least ↦
-            (let differ : e.1 / size ≢ h / size = λ q. first (is.0.0 ∙ q) in
-            let blocks : f.1 / size < e.1 / size = omega (arith, differ) in
-            absurd (let back : f.1 < e.1 = block_below size some f.1 e.1 blocks in omega arith))
-      ] in
-      (f, fs, refl, below, block, is.1.1)
-
 -- the head of a list that is read off the hashes and links
 module _ (hashes links : List ℕ) (s : ℕ) where
   pub thread_within : (path : List (ℕ × ℕ)) → IsThread hashes links (Some s) path → s < length hashes
@@ -293,12 +226,6 @@ module _ {v : Placed} {m : Modulus} {heads : List Head} {filters hashes : List �
       ∙ (empty_bucket_at k within).1 none))
 
 module _ (v : Placed) (k size : ℕ) (head : Head) (o : IsOccupied v k size head) where
-  pub order : InOrder (o.e ∷ o.es)
-  order = rw o.split at (chain-in_order v k)
-
-  pub apart : IsDistinct eqb (symbols_of (o.e ∷ o.es))
-  apart = rw o.split at (distinct v k)
-
   pub entries : AllByRecursion (IsEntry v.count k v.hashes) (o.e ∷ o.es)
   entries = rw o.split at (chain-entries v k)
 

@@ -2,20 +2,20 @@
 use Rattle.std.proofs.lemmas.Grind.{common_steps}
 use Rattle.std.proofs.Common.{◌≡◌, ◌≢◌, ◌⊎◌, ℕ, ◌+◌, ◌*◌, ◌/◌, ◌%◌, ◌<◌, ◌≤◌, Bool, true, false, List, [], ◌∷◌, ◌++◌, length, get_or, replicate, Option, Some, None, refl, sym, ap, ◌∙◌, arith, inl, inr, append_assoc, length-append}
 use Rattle.std.specs.Option.{MatchOption, IfSome}
-use Rattle.std.specs.List.{AllByRecursion}
-use Rattle.std.proofs.lemmas.Bool.{eq-eqb, ne_eqb, true≢false}
+use Rattle.std.specs.List.{AllByRecursion, IsDistinct}
+use Rattle.std.proofs.lemmas.Bool.{eqb-false, eq-eqb, ne_eqb, true≢false}
 use Rattle.std.proofs.lemmas.Bool.Decides.{eqb_tells}
 use Rattle.std.proofs.lemmas.List.{get_or_default}
 use Rattle.std.proofs.lemmas.List.Elements.{recursion_from_All}
 use Rattle.intaglio_content.specs.Work.{Event, step}
 use Rattle.intaglio_index.specs.declared.index.head.Head.{Head}
 use Rattle.intaglio_index.specs.Placed.{Placed, chain, chain_from, head_of, first_symbol_with, IsEntry, BeginsAtOrAbove, IsPredecessor}
-use Rattle.intaglio_index.specs.Found.{IsFound, IsPassed, IsBehind, HasPassed, IsReached, IsAt}
-use Rattle.intaglio_index.specs.Heads.{IsHead}
-use Rattle.intaglio_index.proofs.ChainLemmas.{Each-weaker, Each-right, Each-append, chain-complete, chain-each, chain-entries, entry-split, InOrder}
-use Rattle.intaglio_index.proofs.HeadLemmas.{IsOccupied, order, apart, entries, first_within, second_within, none_by_words, both_below, second_agrees}
-use Rattle.intaglio_index.proofs.Words.{same_number, high_below, high_above}
-use Rattle.intaglio_index.proofs.WalkLemmas.{standing, moves}
+use Rattle.intaglio_index.specs.Found.{IsFound, IsPassed, IsBehind, IsReached, IsAt}
+use Rattle.intaglio_index.specs.Heads.{IsHead, IsWord}
+use Rattle.intaglio_index.proofs.ChainLemmas.{Each-weaker, Each-right, Each-append, chain-complete, chain-each, chain-entries, chain-in_order, entry-split, InOrder}
+use Rattle.intaglio_index.proofs.HeadLemmas.{IsOccupied, first_within, second_within}
+use Rattle.intaglio_index.proofs.Words.{same_number, high_below, high_above, block_below, below_block, word_same}
+use Rattle.intaglio_index.proofs.WalkLemmas.{standing, moves, distinct}
 
 -- a hash that no entry of its bucket has was not placed
 pub absent_on : (v : Placed) (hash : ℕ) →
@@ -31,10 +31,6 @@ absent_on v hash none =
     let entry = (Each-right (IsEntry v.count (hash % v.count) v.hashes) parts.0 (parts.1 ∷ parts.2) each).0 in
     let other = (Each-right (λ (x : ℕ × ℕ). x.1 ≢ hash) parts.0 (parts.1 ∷ parts.2) (rw parts.3 at none)).0 in
     other (sym (entry.1 0) ∙ ap (λ s. get_or v.hashes s 0) parts.4 ∙ at)))
-
--- an entry with this symbol and this hash is the pair of them
-pub entry_is : (e : ℕ × ℕ) (s h : ℕ) → e.0 ≡ s → e.1 ≡ h → e ≡ (s, h)
-entry_is e s h p q = rw (← p, ← q) refl
 
 -- the steps of a front, one for each entry and one more, with another one are those of a front longer by one
 steps_push : (old now new : List Event) (front : List (ℕ × ℕ)) (e : ℕ × ℕ) →
@@ -52,24 +48,20 @@ begins h path old now candidate events next =
     }
 
 -- behind the first two
-module _ (h : ℕ) (path : List (ℕ × ℕ)) (candidate : Option (ℕ × ℕ)) (second : ℕ)
-    (behind : IsBehind h path second) (after : (before rest : List (ℕ × ℕ)) →
-    path ≡ before ++ (second, behind.hash) ∷ rest → candidate ≡ head_of rest) where
-  abbrev third : HasPassed h path candidate
-  third = record {
+pub begins_third : {h : ℕ} {path : List (ℕ × ℕ)} {second : ℕ} (behind : IsBehind h path second)
+    (old now : List Event) (candidate : Option (ℕ × ℕ)) →
+    ((before rest : List (ℕ × ℕ)) → path ≡ before ++ (second, behind.hash) ∷ rest → candidate ≡ head_of rest) →
+    now ≡ old ++ replicate 3 step → IsReached h path old now candidate
+begins_third {second = second} behind old now candidate after events = record {
+  walk = record {
     front = behind.first ∷ (second, behind.hash) ∷ [];
     rest = behind.rest;
     split = behind.split;
     next = after (behind.first ∷ []) behind.rest behind.split;
     smaller = (behind.first_smaller, (behind.smaller, tt));
-  }
-
-  pub begins_third : (old now : List Event) → now ≡ old ++ replicate 3 step →
-      IsReached h path old now candidate
-  begins_third old now events = record { walk = third; events = events }
-
-  pub at_second : IsAt h path (Some second) candidate
-  at_second = record { walk = third; last_is = (behind.first ∷ [], behind.hash, refl) }
+  };
+  events = events;
+}
 
 -- the second is a placed symbol
 pub second_placed : (v : Placed) (h second : ℕ) (behind : IsBehind h (chain v (h % v.count)) second) →
@@ -137,74 +129,70 @@ each_some P Q None f h = tt
 each_some P Q (Some s) f h = f s h
 
 -- what the head tells of a hash of its bucket
-module _ (v : Placed) (h size : ℕ) (head : Head) (some : 0 < size) (o : IsOccupied v (h % v.count) size head)
-    (old new : List Event) where
+module _ (v : Placed) (h size : ℕ) (head : Head) (some : 0 < size) where
+  differs : (e : ℕ × ℕ) (word : ℕ) → IsWord size e word → word / size ≢ h / size → e.1 ≢ h
+  differs e word is other same = other (is.0 ∙ ap (λ n. n / size) same)
+
   -- that no symbol has it
-  absent_by_head : head.first / size ≢ h / size → head.second / size ≢ h / size →
-      (h < head.second) ⊎ (head.first ≡ head.second) → AllByRecursion (λ placed. placed ≢ h) v.hashes
-  absent_by_head first second end =
-      absent_on v h
-      (rw o.split (none_by_words size some h head o.e o.es (apart v (h % v.count) size head o)
-      (order v (h % v.count) size head o) o.is first second end))
+  none_by_words : (e : ℕ × ℕ) (es : List (ℕ × ℕ)) → chain v (h % v.count) ≡ e ∷ es → IsHead size head (e ∷ es) →
+      head.first / size ≢ h / size → head.second / size ≢ h / size →
+      (h < head.second) ⊎ ((head.second ≤ h) × (head.first ≡ head.second)) →
+      AllByRecursion (λ (x : ℕ × ℕ). x.1 ≢ h) (e ∷ es)
+  unfolding IsDistinct
+  none_by_words e [] split is first second end = (differs e head.first is.0 first, tt)
+  none_by_words e (f ∷ fs) split is first second (inr same) =
+      absurd (eqb-false e.0 f.0 (rw split at (distinct v (h % v.count))).0.0
+      (sym is.0.1 ∙ ap (λ w. w % size) same.1 ∙ is.1.1))
+  none_by_words e (f ∷ fs) split is first second (inl less) =
+      let blocks = below_block size some h head.second less (λ q. second (sym q)) in
+      let above : h < f.1 = block_below size some h f.1 (omega (arith, blocks, is.1.0)) in
+      let rest = Each-weaker (λ (x : ℕ × ℕ). f.1 ≤ x.1) (λ (x : ℕ × ℕ). x.1 ≢ h) (λ x l q. omega arith) fs
+      (rw split at (chain-in_order v (h % v.count))).1.0 in
+      (differs e head.first is.0 first, ((λ q. omega arith), rest))
 
   -- that the first two have smaller ones
-  both_smaller : head.second / size ≢ h / size → head.second ≤ h → head.first ≢ head.second →
+  both_below : (e : ℕ × ℕ) (es : List (ℕ × ℕ)) → chain v (h % v.count) ≡ e ∷ es → IsHead size head (e ∷ es) →
+      head.second / size ≢ h / size → head.second ≤ h → head.first ≢ head.second →
       IsBehind h (chain v (h % v.count)) (head.second % size)
-  both_smaller second at_most other =
-      let r = both_below size some h head o.e o.es (order v (h % v.count) size head o) o.is second
-      at_most other in
-      let f_is : r.0 ≡ (head.second % size, r.0.1) = entry_is r.0 (head.second % size) r.0.1 (sym r.5) refl in
-      let split : chain v (h % v.count) ≡ o.e ∷ r.0 ∷ r.1 = o.split ∙ ap (λ es. o.e ∷ es) r.2 in
-      record {
-        first = o.e;
-        hash = r.0.1;
-        rest = r.1;
-        split = split ∙ ap (λ f. o.e ∷ f ∷ r.1) f_is;
-        first_smaller = r.3;
-        smaller = r.4;
+  both_below e [] split is second at_most other =
+      absurd (other (word_same size some e head.first head.second is.0 is.1))
+  both_below e (f ∷ fs) split is second at_most other =
+      let differ : head.second ≢ h = λ q. second (ap (λ n. n / size) q) in
+      let blocks = below_block size some head.second h (omega arith) second in
+      let below : f.1 < h = block_below size some f.1 h (omega (arith, blocks, is.1.0)) in
+      let order = (rw split at (chain-in_order v (h % v.count))).0.0 in
+      rw is.1.1 record {
+        first = e;
+        hash = f.1;
+        rest = fs;
+        split = split;
+        first_smaller = omega (arith, order, below);
+        smaller = below;
       }
 
   -- an entry of the bucket with the same high bits has the hash, if that was read or
   -- if the bucket tells the other bits
   sure_of : (e : ℕ × ℕ) → IsEntry v.count (h % v.count) v.hashes e → e.1 / size ≡ h / size →
       (get_or v.hashes e.0 0 ≡ h) ⊎ (v.count ≡ size) → e.1 ≡ h
-  sure_of e entry high sure = elim sure [
-    | inl read ↦ sym (entry.1 0) ∙ read
-    | inr exact ↦ same_number size some e.1 h (rw exact at entry.2) high
-  ]
+  sure_of e entry high (inl read) = sym (entry.1 0) ∙ read
+  sure_of e entry high (inr exact) = same_number size some e.1 h (rw exact at entry.2) high
 
-  -- that it is the first one's
-  first_found : head.first / size ≡ h / size → (get_or v.hashes (head.first % size) 0 ≡ h)
-      ⊎ (v.count ≡ size) → new ≡ old ++ step ∷ [] →
-      IsFound h (chain v (h % v.count)) old new (head.first % size)
-  first_found high sure events =
-      let entry = (entries v (h % v.count) size head o).0 in
-      let is : o.e.1 ≡ h = sure_of o.e entry (sym o.is.0.0 ∙ high) (rw (← o.is.0.1) sure) in
-      let e_is : o.e ≡ (head.first % size, h) = entry_is o.e (head.first % size) h (sym o.is.0.1) is in
-      record {
-        front = [];
-        behind = o.es;
-        split = o.split ∙ ap (λ e. e ∷ o.es) e_is;
-        smaller = tt;
-        events = events;
-      }
-
-  -- or the second one's
-  second_found : head.first / size ≢ h / size → head.second / size ≡ h / size →
-      (get_or v.hashes (head.second % size) 0 ≡ h) ⊎ (v.count ≡ size) → new ≡ old ++ replicate 2 step →
-      IsFound h (chain v (h % v.count)) old new (head.second % size)
-  second_found first high sure events =
-      let r = second_agrees size some h head o.e o.es (order v (h % v.count) size head o) o.is first high in
-      let each = rw r.2 at (entries v (h % v.count) size head o).1 in
-      let is : r.0.1 ≡ h = sure_of r.0 each.0 r.4 (rw (← r.5) sure) in
-      let f_is : r.0 ≡ (head.second % size, h) = entry_is r.0 (head.second % size) h (sym r.5) is in
-      let split : chain v (h % v.count) ≡ o.e ∷ r.0 ∷ r.1 = o.split ∙ ap (λ es. o.e ∷ es) r.2 in
-      record {
-        front = o.e ∷ [];
-        behind = r.1;
-        split = split ∙ ap (λ f. o.e ∷ f ∷ r.1) f_is;
-        smaller =
-            (r.3, tt);
+  -- that it is the second one's
+  second_found : (e : ℕ × ℕ) (es : List (ℕ × ℕ)) → chain v (h % v.count) ≡ e ∷ es → IsHead size head (e ∷ es) →
+      head.first / size ≢ h / size → head.second / size ≡ h / size →
+      (get_or v.hashes (head.second % size) 0 ≡ h) ⊎ (v.count ≡ size) → (old new : List Event) →
+      new ≡ old ++ replicate 2 step → IsFound h (chain v (h % v.count)) old new (head.second % size)
+  second_found e [] split is first second sure old new events =
+      absurd (first (is.0.0 ∙ sym is.1.0 ∙ second))
+  second_found e (f ∷ fs) split is first second sure old new events =
+      let entry = (rw split at (chain-entries v (h % v.count))).1.0 in
+      let same = sure_of f entry (sym is.1.0 ∙ second) (rw is.1.1 at sure) in
+      let order = (rw split at (chain-in_order v (h % v.count))).0.0 in
+      rw is.1.1 record {
+        front = e ∷ [];
+        behind = fs;
+        split = split ∙ ap (λ n. e ∷ (f.0, n) ∷ fs) same;
+        smaller = (omega (arith, order, same, differs e head.first is.0 first), tt);
         events = events;
       }
 
@@ -251,7 +239,7 @@ pub record IsRead (v : Placed) (h size : ℕ) (head : Head) (word : ℕ) : Type 
   pub first : head.first / size ≡ h / size → word ≡ head.first
   pub second : head.first / size ≢ h / size → word ≡ head.second
 
-module _ (v : Placed) (h size : ℕ) (head : Head) (word : ℕ) (read : IsRead v h size head word) where
+module _ {v : Placed} {h size : ℕ} {head : Head} {word : ℕ} (read : IsRead v h size head word) where
   -- the word is that of a placed symbol
   pub word_within : word % size < length v.hashes
   word_within = elim (eqb_tells (head.first / size) (h / size)) [
@@ -269,14 +257,12 @@ module _ (v : Placed) (h size : ℕ) (head : Head) (word : ℕ) (read : IsRead v
 
     pub head_absent : (h < head.second) ⊎ ((head.second ≤ h) × (head.first ≡ head.second)) →
         AllByRecursion (λ placed. placed ≢ h) v.hashes
-    head_absent (inl less) =
-        absent_by_head v h size head read.some read.occupied [] [] first_other second_other (inl less)
-    head_absent (inr same) =
-        absent_by_head v h size head read.some read.occupied [] [] first_other second_other (inr same.1)
+    head_absent end = absent_on v h (rw read.occupied.split (none_by_words v h size head read.some _ _
+        read.occupied.split read.occupied.is first_other second_other end))
 
     pub head_behind : head.second ≤ h → head.first ≢ head.second →
         IsBehind h (chain v (h % v.count)) (head.second % size)
-    head_behind = both_smaller v h size head read.some read.occupied [] [] second_other
+    head_behind = both_below v h size head read.some _ _ read.occupied.split read.occupied.is second_other
 
   -- where it does, and is sure to be the hash, its symbol is the first with the hash
   module _ (high : word / size ≡ h / size) (sure : (get_or v.hashes (word % size) 0 ≡ h) ⊎ (v.count ≡ size))
@@ -284,16 +270,25 @@ module _ (v : Placed) (h size : ℕ) (head : Head) (word : ℕ) (read : IsRead v
     pub word_first : word ≡ head.first → new ≡ old ++ step ∷ [] →
         IsFound h (chain v (h % v.count)) old new (word % size)
     word_first is events =
-        rw is (first_found v h size head read.some read.occupied old new (rw is at high)
-        (rw is at sure) events)
+        let o = read.occupied in
+        let symbol : word % size ≡ o.e.0 = rw is o.is.0.1 in
+        let same = sure_of v h size head read.some o.e (rw o.split at (chain-entries v (h % v.count))).0
+        (sym o.is.0.0 ∙ rw is at high) (rw symbol at sure) in
+        rw symbol record {
+          front = [];
+          behind = o.es;
+          split = o.split ∙ ap (λ n. (o.e.0, n) ∷ o.es) same;
+          smaller = tt;
+          events = events;
+        }
 
     pub word_second : word ≢ head.first → new ≡ old ++ replicate 2 step →
         IsFound h (chain v (h % v.count)) old new (word % size)
     word_second other events =
         let first : head.first / size ≢ h / size = λ q. other (read.first q) in
         let is = read.second first in
-        rw is (second_found v h size head read.some read.occupied old new first (rw is at high)
-        (rw is at sure) events)
+        rw is (second_found v h size head read.some _ _ read.occupied.split read.occupied.is first
+        (rw is at high) (rw is at sure) old new events)
 
 -- a hash that was read
 pub hash_read : (hashes : List ℕ) (s i hash : ℕ) → s < length hashes → hash ≡ get_or hashes i hash → i ≡ s →
@@ -301,81 +296,69 @@ pub hash_read : (hashes : List ℕ) (s i hash : ℕ) → s < length hashes → h
 hash_read hashes s i hash within read same = grind (arith, common_steps)
 
 -- where the number of buckets is a power of two, the words of a bucket are in the order of its hashes
-module _ (v : Placed) (h size : ℕ) (head : Head) (some : 0 < size) (exact : v.count ≡ size)
-    (o : IsOccupied v (h % v.count) size head) where
-  low : (e : ℕ × ℕ) → IsEntry v.count (h % v.count) v.hashes e → e.1 % size ≡ h % size
-  low e entry = rw exact at entry.2
+module _ (v : Placed) (h size : ℕ) (head : Head) (some : 0 < size) (exact : v.count ≡ size) where
+  above : (e : ℕ × ℕ) (word : ℕ) → IsEntry v.count (h % v.count) v.hashes e → IsWord size e word →
+      h / size * size ≤ word → h ≤ e.1
+  above e word entry is l = high_below size some e.1 h word (rw exact at entry.2) is.0 l
 
-  pub begins_above : h / size * size ≤ head.first → BeginsAtOrAbove h (chain v (h % v.count))
-  begins_above l =
-      rw o.split (high_below size some o.e.1 h head.first (low o.e (entries v (h % v.count) size head o).0)
-      o.is.0.0 l)
-
-  first_below : head.first < h / size * size → o.e.1 < h
-  first_below l = high_above size some o.e.1 h head.first o.is.0.0 l
-
-  behind_first : (es : List (ℕ × ℕ)) → IsHead size head (o.e ∷ es) →
-      AllByRecursion (IsEntry v.count (h % v.count) v.hashes) (o.e ∷ es) → o.e.1 < h →
+  begins_at : (e : ℕ × ℕ) (es : List (ℕ × ℕ)) → chain v (h % v.count) ≡ e ∷ es → IsHead size head (e ∷ es) →
       h / size * size ≤ head.second → BeginsAtOrAbove h es
-  behind_first [] is each below l = tt
-  behind_first (f ∷ fs) is each below l = high_below size some f.1 h head.second (low f each.1.0) is.1.0 l
-
-  -- the first one alone has a smaller hash
-  pub first_precedes : head.first < h / size * size → h / size * size ≤ head.second →
-      IsPredecessor h (chain v (h % v.count)) (head.first % size)
-  first_precedes first second =
-      let below = first_below first in
-      let e_is : o.e ≡ (head.first % size, o.e.1) =
-      entry_is o.e (head.first % size) o.e.1 (sym o.is.0.1) refl in
-      record {
-        front = [];
-        hash = o.e.1;
-        behind = o.es;
-        split = o.split ∙ ap (λ e. e ∷ o.es) e_is;
-        smaller = (below, tt);
-        others = behind_first o.es o.is (entries v (h % v.count) size head o) below second;
-      }
+  begins_at e [] split is l = tt
+  begins_at e (f ∷ fs) split is l =
+      above f head.second (rw split at (chain-entries v (h % v.count))).1.0 is.1 l
 
   -- a walk stands behind the second one
-  stands : (candidate : Option (ℕ × ℕ)) (es : List (ℕ × ℕ)) → o.es ≡ es → IsHead size head (o.e ∷ es) →
-      o.e.1 < h → head.second < h / size * size →
+  stands : (e : ℕ × ℕ) (es : List (ℕ × ℕ)) → chain v (h % v.count) ≡ e ∷ es → IsHead size head (e ∷ es) →
+      (candidate : Option (ℕ × ℕ)) → e.1 < h → head.second < h / size * size →
       ((b hash : ℕ) (before behind : List (ℕ × ℕ)) →
       chain v b ≡ before ++ (head.second % size, hash) ∷ behind → candidate ≡ head_of behind) →
       IsAt h (chain v (h % v.count)) (Some (head.second % size)) candidate
-  stands candidate [] rest is below second after =
-      let e_is : o.e ≡ (head.second % size, o.e.1) =
-      entry_is o.e (head.second % size) o.e.1 (sym is.1.1) refl in
-      let whole : chain v (h % v.count) ≡ o.e ∷ [] = o.split ∙ ap (λ es. o.e ∷ es) rest in
-      record {
+  stands e [] split is candidate below second after =
+      let next = rw is.1.1 at after in
+      rw is.1.1 record {
         walk = record {
-          front = o.e ∷ [];
+          front = e ∷ [];
           rest = [];
-          split = whole;
-          next =
-              after (h % v.count) o.e.1 [] [] (whole ∙ ap (λ e. e ∷ []) e_is);
+          split = split;
+          next = next (h % v.count) e.1 [] [] split;
           smaller = (below, tt);
         };
-        last_is = ([], o.e.1, ap (λ e. e ∷ []) e_is);
+        last_is = ([], e.1, refl);
       }
-  stands candidate (f ∷ fs) rest is below second after =
-      let f_is : f ≡ (head.second % size, f.1) = entry_is f (head.second % size) f.1 (sym is.1.1) refl in
-      let whole : chain v (h % v.count) ≡ o.e ∷ f ∷ fs = o.split ∙ ap (λ es. o.e ∷ es) rest in
-      let behind : IsBehind h (chain v (h % v.count)) (head.second % size) =
-      record {
-        first = o.e;
-        hash = f.1;
-        rest = fs;
-        split = whole ∙ ap (λ x. o.e ∷ x ∷ fs) f_is;
-        first_smaller = below;
-        smaller = high_above size some f.1 h head.second is.1.0 second;
-      } in
-      at_second h (chain v (h % v.count)) candidate (head.second % size) behind (λ before rest split.
-      after (h % v.count) f.1 before rest split)
+  stands e (f ∷ fs) split is candidate below second after =
+      let next = rw is.1.1 at after in
+      rw is.1.1 record {
+        walk = record {
+          front = e ∷ f ∷ [];
+          rest = fs;
+          split = split;
+          next = next (h % v.count) f.1 (e ∷ []) fs split;
+          smaller = (below, (high_above size some f.1 h head.second is.1.0 second, tt));
+        };
+        last_is = (e ∷ [], f.1, refl);
+      }
 
-  pub behind_second : (candidate : Option (ℕ × ℕ)) → head.first < h / size * size →
-      head.second < h / size * size →
-      ((b hash : ℕ) (before behind : List (ℕ × ℕ)) →
-      chain v b ≡ before ++ (head.second % size, hash) ∷ behind → candidate ≡ head_of behind) →
-      IsAt h (chain v (h % v.count)) (Some (head.second % size)) candidate
-  behind_second candidate first second after =
-      stands candidate o.es refl o.is (first_below first) second after
+  module _ (o : IsOccupied v (h % v.count) size head) where
+    pub begins_above : h / size * size ≤ head.first → BeginsAtOrAbove h (chain v (h % v.count))
+    begins_above l =
+        rw o.split (above o.e head.first (rw o.split at (chain-entries v (h % v.count))).0 o.is.0 l)
+
+    -- the first one alone has a smaller hash
+    pub first_precedes : head.first < h / size * size → h / size * size ≤ head.second →
+        IsPredecessor h (chain v (h % v.count)) (head.first % size)
+    first_precedes first second = rw o.is.0.1 record {
+      front = [];
+      hash = o.e.1;
+      behind = o.es;
+      split = o.split;
+      smaller = (high_above size some o.e.1 h head.first o.is.0.0 first, tt);
+      others = begins_at o.e o.es o.split o.is second;
+    }
+
+    pub behind_second : (candidate : Option (ℕ × ℕ)) → head.first < h / size * size →
+        head.second < h / size * size →
+        ((b hash : ℕ) (before behind : List (ℕ × ℕ)) →
+        chain v b ≡ before ++ (head.second % size, hash) ∷ behind → candidate ≡ head_of behind) →
+        IsAt h (chain v (h % v.count)) (Some (head.second % size)) candidate
+    behind_second candidate first second after =
+        stands o.e o.es o.split o.is candidate (high_above size some o.e.1 h head.first o.is.0.0 first) second after

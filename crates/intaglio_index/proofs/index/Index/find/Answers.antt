@@ -17,7 +17,7 @@ read c = grind (arith, common_steps, count_is c.self.view_is c.self.invariant, e
 
 pub returns-then-hash-head-clause-none : goal.returns-then-hash-head-clause-none
 returns-then-hash-head-clause-none c =
-    λ e. head_absent _ _ _ _ _ (read (goal.at.returns-then-hash-head-clause-none c).After-agrees)
+    λ e. head_absent (read (goal.at.returns-then-hash-head-clause-none c).After-agrees)
     c.agrees.result c.if-not-agrees.true c.agrees.ensures.1 c.then-hash-head.either
 
 pub returns-then-hash-head-clause-passed : goal.returns-then-hash-head-clause-passed
@@ -34,18 +34,18 @@ find_behind-requires c = grind (arith, common_steps, head_behind, read)
 pub symbol_beside-symbol-requires-clause-number : goal.symbol_beside-symbol-requires-clause-number
 symbol_beside-symbol-requires-clause-number c =
     let all = (goal.at.symbol_beside-symbol-requires-clause-number c).After-agrees in
-    omega (arith, word_within _ _ _ _ _ (read all), numbered c.self.view_is c.self.invariant, c.self.invariant.linked.numbered)
+    omega (arith, word_within (read all), numbered c.self.view_is c.self.invariant, c.self.invariant.linked.numbered)
 
 pub returns-then-word-head-clause-found : goal.returns-then-word-head-clause-found
 returns-then-word-head-clause-found c =
     let all = (goal.at.returns-then-word-head-clause-found c).After-agrees in
     rw c.symbol_beside-symbol.ensures
-    (word_first _ _ _ _ _ (read all) (c.agrees.ensures.0 c.if-not-agrees.false) (inr (exact all)) _ _
+    (word_first (read all) (c.agrees.ensures.0 c.if-not-agrees.false) (inr (exact all)) _ _
     c.if-word-head.true c.step.ensures)
 
 pub returns-clause-found : goal.returns-clause-found
 returns-clause-found c =
     let all = (goal.at.returns-clause-found c).After-agrees in
     rw c.symbol_beside-symbol.ensures
-    (word_second _ _ _ _ _ (read all) (c.agrees.ensures.0 c.if-not-agrees.false) (inr (exact all)) _ _
+    (word_second (read all) (c.agrees.ensures.0 c.if-not-agrees.false) (inr (exact all)) _ _
     c.if-word-head.false (two_steps _ _ _ c.step.ensures c.step-2.ensures))

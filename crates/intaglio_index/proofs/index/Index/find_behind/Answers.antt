@@ -13,10 +13,8 @@ reached : (c : After-next_entry) (start : List Event) → c.args.work.now.events
     IsReached c.args.hash (chain c.args.self.now (c.args.hash % c.args.self.now.count)) start
     c.step-2.new.self.events c.next_entry.result
 reached c start begun =
-    begins_third _ _ c.next_entry.result _ c.requires.behind (λ before rest split.
-    c.next_entry.ensures.next (c.args.hash % c.args.self.now.count) c.requires.behind.hash before
-    rest split)
-    _ _ (three_steps _ _ _ _ begun c.step.ensures c.step-2.ensures)
+    begins_third c.requires.behind _ _ _ (c.next_entry.ensures.next _ _)
+    (three_steps _ _ _ _ begun c.step.ensures c.step-2.ensures)
 
 pub find_along-requires : goal.find_along-requires
 find_along-requires c = (

@@ -17,7 +17,7 @@ read c = grind (arith, common_steps, count_is c.self.view_is c.self.invariant, e
 
 pub returns-then-hash-head-clause-none : goal.returns-then-hash-head-clause-none
 returns-then-hash-head-clause-none c =
-    λ e. head_absent _ _ _ _ _ (read (goal.at.returns-then-hash-head-clause-none c).After-agrees)
+    λ e. head_absent (read (goal.at.returns-then-hash-head-clause-none c).After-agrees)
     c.agrees.result c.if-not-agrees.true c.agrees.ensures.1 c.then-hash-head.either
 
 pub returns-then-hash-head-clause-passed : goal.returns-then-hash-head-clause-passed
@@ -38,12 +38,12 @@ returns-then-not-agrees-clause-passed c =
 pub symbol-symbol-requires-clause-number : goal.symbol-symbol-requires-clause-number
 symbol-symbol-requires-clause-number c =
     let all = (goal.at.symbol-symbol-requires-clause-number c).After-agrees in
-    omega (arith, word_within _ _ _ _ _ (read all), numbered c.self.view_is c.self.invariant, c.self.invariant.linked.numbered)
+    omega (arith, word_within (read all), numbered c.self.view_is c.self.invariant, c.self.invariant.linked.numbered)
 
 pub index-requires-2 : goal.index-requires-2
 index-requires-2 c =
     let all = (goal.at.index-requires-2 c).After-agrees in
-    omega (arith, word_within _ _ _ _ _ (read all), ap (λ (v : Placed). length v.hashes) c.self.view_is)
+    omega (arith, word_within (read all), ap (λ (v : Placed). length v.hashes) c.self.view_is)
 
 reached : (c : After-first_entry) →
     IsReached c.args.hash (bucket_of c.args.self.now c.args.hash) c.args.work.now.events
@@ -75,9 +75,9 @@ returns-then-word-head-clause-found c =
     let all = (goal.at.returns-then-word-head-clause-found c).After-agrees in
     let hash =
     hash_read c.args.self.now.hashes (c.matching_word-word.result % (c.self.inside.modulus.mask + 1)) _ _
-    (word_within _ _ _ _ _ (read all)) (rw (← c.self.view_is) c.index-2.ensures) (c.id.ensures
+    (word_within (read all)) (rw (← c.self.view_is) c.index-2.ensures) (c.id.ensures
     ∙ c.symbol-symbol.ensures) ∙ c.if-index-hash.false in
-    rw c.symbol-symbol.ensures (word_first _ _ _ _ _ (read all) (c.agrees.ensures.0 c.if-not-agrees.false)
+    rw c.symbol-symbol.ensures (word_first (read all) (c.agrees.ensures.0 c.if-not-agrees.false)
     (inl hash) _ _ c.if-word-head.true c.step.ensures)
 
 pub returns-clause-found : goal.returns-clause-found
@@ -85,7 +85,7 @@ returns-clause-found c =
     let all = (goal.at.returns-clause-found c).After-agrees in
     let hash =
     hash_read c.args.self.now.hashes (c.matching_word-word.result % (c.self.inside.modulus.mask + 1)) _ _
-    (word_within _ _ _ _ _ (read all)) (rw (← c.self.view_is) c.index-2.ensures) (c.id.ensures
+    (word_within (read all)) (rw (← c.self.view_is) c.index-2.ensures) (c.id.ensures
     ∙ c.symbol-symbol.ensures) ∙ c.if-index-hash.false in
-    rw c.symbol-symbol.ensures (word_second _ _ _ _ _ (read all) (c.agrees.ensures.0 c.if-not-agrees.false)
+    rw c.symbol-symbol.ensures (word_second (read all) (c.agrees.ensures.0 c.if-not-agrees.false)
     (inl hash) _ _ c.if-word-head.false (two_steps _ _ _ c.step.ensures c.step-2.ensures))
