@@ -3,7 +3,7 @@ use Rattle.std.proofs.lemmas.Grind.{common_steps}
 use Rattle.std.proofs.Common.{◌≡◌, ◌≢◌, ℕ, zero, suc, ◌+◌, ◌<◌, ◌≤◌, ◌%◌, Bool, true, false, cond, List, [], ◌∷◌, ◌++◌, length, get_or, refl, sym, ap, ◌∙◌, arith, eqb, ltb, length-append, append_assoc}
 use Rattle.std.specs.List.{Contains, AllByRecursion, IsDistinct}
 use Rattle.std.specs.List.Sorted.{IsPermutation}
-use Rattle.std.proofs.lemmas.Bool.{eqb-true, ltb-true, ltb-false, le-ltb, lt-ltb, eq-eqb, ne_eqb}
+use Rattle.std.proofs.lemmas.Bool.{cond_both, eqb-true, ltb-true, ltb-false, le-ltb, lt-ltb, eq-eqb, ne_eqb}
 use Rattle.std.proofs.lemmas.List.{get_or_at, append-nil}
 use Rattle.std.proofs.lemmas.List.Elements.{All-from_recursion, Contains-append_right}
 use Rattle.std.proofs.lemmas.List.Kept.{AllPairs-cons}
@@ -44,11 +44,8 @@ insert_sorted-each : (P : ℕ × ℕ → Type 0) (s h : ℕ) (es : List (ℕ × 
     AllByRecursion P (insert_sorted s h es)
 insert_sorted-each P s h [] p a = (p, tt)
 insert_sorted-each P s h (e ∷ es) p a =
-    elim (ltb e.1 h) as (λ t. AllByRecursion P (cond t (e ∷ insert_sorted s h es) ((s, h) ∷ e ∷ es))) [
-      | true ↦
-          (a.0, insert_sorted-each P s h es p a.1)
-      | false ↦ (p, a)
-    ]
+    cond_both (ltb e.1 h) (e ∷ insert_sorted s h es) ((s, h) ∷ e ∷ es) (AllByRecursion P)
+    (λ t. (a.0, insert_sorted-each P s h es p a.1)) (λ t. (p, a))
 
 -- where the front part is smaller and the rest is not, put goes between
 pub insert_sorted-between : (s h : ℕ) (before behind : List (ℕ × ℕ)) →
@@ -73,11 +70,7 @@ put-behind s h path last pred =
 pub put-some : (s h : ℕ) (es : List (ℕ × ℕ)) → insert_sorted s h es ≡ [] → ⊥
 put-some s h [] e = cc
 put-some s h (x ∷ xs) e =
-    (elim (ltb x.1 h) as (λ t. cond t (x ∷ insert_sorted s h xs) ((s, h) ∷ x ∷ xs) ≡ [] → ⊥) [
-      | true ↦
-          λ q. cc
-      | false ↦ λ q. cc
-    ]) e
+    cond_both (ltb x.1 h) _ _ (λ (ys : List (ℕ × ℕ)). ys ≡ [] → ⊥) (λ t q. cc) (λ t q. cc) e
 
 -- one more hash at the end
 chain_from-push : (count b at : ℕ) (met : List (ℕ × ℕ)) (hs : List ℕ) (h : ℕ) →
@@ -136,15 +129,10 @@ insert_sorted-permutation : (s h : ℕ) (es : List (ℕ × ℕ)) →
     IsPermutation (s ∷ symbols_of es) (symbols_of (insert_sorted s h es))
 insert_sorted-permutation s h [] = IsPermutation-refl (s ∷ [])
 insert_sorted-permutation s h (e ∷ es) =
-    elim (ltb e.1 h) as
-    (λ t. IsPermutation (s ∷ e.0 ∷ symbols_of es)
-    (symbols_of (cond t (e ∷ insert_sorted s h es) ((s, h) ∷ e ∷ es)))) [
-      | true ↦
-          IsPermutation-trans _ _ _
-          (IsPermutation-sym _ _ (IsPermutation-middle (e.0 ∷ []) s (symbols_of es)))
-          (IsPermutation-cons e.0 _ _ (insert_sorted-permutation s h es))
-      | false ↦ IsPermutation-refl _
-    ]
+    cond_both (ltb e.1 h) (e ∷ insert_sorted s h es) ((s, h) ∷ e ∷ es)
+    (λ (ys : List (ℕ × ℕ)). IsPermutation (s ∷ e.0 ∷ symbols_of es) (symbols_of ys)) (λ t.
+    IsPermutation-trans _ _ _ (IsPermutation-sym _ _ (IsPermutation-middle (e.0 ∷ []) s (symbols_of es)))
+    (IsPermutation-cons e.0 _ _ (insert_sorted-permutation s h es))) (λ t. IsPermutation-refl _)
 
 -- the symbols of a chain are the places of its bucket and the symbols met before, in some order
 chain_from-permutation : (count b at : ℕ) (met : List (ℕ × ℕ)) (hs : List ℕ) →
@@ -177,13 +165,8 @@ places-above count b at [] = tt
 places-above count b at (h ∷ hs) =
     let rest =
     Each-weaker (λ s. at + 1 ≤ s) (λ s. at ≤ s) (λ s l. omega arith) _ (places-above count b (at + 1) hs) in
-    elim (eqb (h % count) b) as
-    (λ t. AllByRecursion (λ s. at ≤ s)
-    (cond t (at ∷ places_from count b (at + 1) hs) (places_from count b (at + 1) hs))) [
-      | true ↦
-          (omega arith, rest)
-      | false ↦ rest
-    ]
+    cond_both (eqb (h % count) b) (at ∷ places_from count b (at + 1) hs) (places_from count b (at + 1) hs)
+    (AllByRecursion (λ s. at ≤ s)) (λ t. (omega arith, rest)) (λ t. rest)
 
 -- no place of a bucket occurs twice
 places-distinct : (count b at : ℕ) (hs : List ℕ) → IsDistinct eqb (places_from count b at hs)
@@ -194,9 +177,8 @@ places-distinct count b at (h ∷ hs) =
     let apart : AllByRecursion (λ y. eqb at y ≡ false) (places_from count b (at + 1) hs) =
     Each-weaker (λ s. at + 1 ≤ s) (λ y. eqb at y ≡ false) (λ s l. ne_eqb at s (λ e. omega arith)) _
     (places-above count b (at + 1) hs) in
-    elim (eqb (h % count) b) as
-    (λ t. IsDistinct eqb (cond t (at ∷ places_from count b (at + 1) hs) (places_from count b (at + 1) hs)))
-    [ true ↦ (apart, rest) | false ↦ rest ]
+    cond_both (eqb (h % count) b) (at ∷ places_from count b (at + 1) hs) (places_from count b (at + 1) hs)
+    (IsDistinct eqb) (λ t. (apart, rest)) (λ t. rest)
 
 -- no symbol occurs twice on a chain
 pub chain-distinct : (count b : ℕ) (hs : List ℕ) → IsDistinct eqb (symbols_of (chain_from count b 0 [] hs))
@@ -214,18 +196,13 @@ InOrder (e ∷ es) = AllByRecursion (λ (f : ℕ × ℕ). e.1 ≤ f.1) es × InO
 insert_sorted-in_order : (s h : ℕ) (es : List (ℕ × ℕ)) → InOrder es → InOrder (insert_sorted s h es)
 insert_sorted-in_order s h [] o = (tt, tt)
 insert_sorted-in_order s h (e ∷ es) o =
-    let cases : (t : Bool) → ltb e.1 h ≡ t → InOrder (cond t (e ∷ insert_sorted s h es) ((s, h) ∷ e ∷ es)) =
-    elim [
-      | true ↦ λ is. (
-        insert_sorted-each (λ f. e.1 ≤ f.1) s h es (omega (arith, ltb-true e.1 h is)) o.0,
-        insert_sorted-in_order s h es o.1,
-      )
-      | false ↦ λ is. (let le : h ≤ e.1 = ltb-false e.1 h is in (
-        (le, Each-weaker (λ (f : ℕ × ℕ). e.1 ≤ f.1) (λ (f : ℕ × ℕ). h ≤ f.1) (λ f l. omega arith) es o.0),
-        o,
-      ))
-    ] in
-    cases (ltb e.1 h) refl
+    cond_both (ltb e.1 h) (e ∷ insert_sorted s h es) ((s, h) ∷ e ∷ es) InOrder (λ is. (
+      insert_sorted-each (λ f. e.1 ≤ f.1) s h es (omega (arith, ltb-true e.1 h is)) o.0,
+      insert_sorted-in_order s h es o.1,
+    )) (λ is. (let le : h ≤ e.1 = ltb-false e.1 h is in (
+      (le, Each-weaker (λ (f : ℕ × ℕ). e.1 ≤ f.1) (λ (f : ℕ × ℕ). h ≤ f.1) (λ f l. omega arith) es o.0),
+      o,
+    )))
 
 -- if hashes don't decrease along the entries met so far, they don't after more hashes are added
 chain_from-in_order : (count b at : ℕ) (met : List (ℕ × ℕ)) (hs : List ℕ) → InOrder met →
@@ -233,11 +210,8 @@ chain_from-in_order : (count b at : ℕ) (met : List (ℕ × ℕ)) (hs : List �
 chain_from-in_order count b at met [] o = o
 chain_from-in_order count b at met (h ∷ hs) o =
     chain_from-in_order count b (at + 1) _ hs
-    (elim (eqb (h % count) b) as (λ t. InOrder (cond t (insert_sorted at h met) met)) [
-      | true ↦
-          insert_sorted-in_order at h met o
-      | false ↦ o
-    ])
+    (cond_both (eqb (h % count) b) (insert_sorted at h met) met InOrder
+    (λ t. insert_sorted-in_order at h met o) (λ t. o))
 
 -- a list along which the hashes don't decrease is sorted: of each two entries the first has no greater hash
 sorted-from-order : (es : List (ℕ × ℕ)) → InOrder es → AreSorted es
@@ -274,9 +248,9 @@ places-complete count b at (h ∷ hs) (suc i) d l e =
     let rest : Contains (places_from count b (at + 1) hs) (at + suc i) =
     (let z : at + suc i ≡ (at + 1) + i = omega arith in
     rw z (places-complete count b (at + 1) hs i d (omega arith) e)) in
-    elim (eqb (h % count) b) as
-    (λ t. Contains (cond t (at ∷ places_from count b (at + 1) hs) (places_from count b (at + 1) hs))
-    (at + suc i)) [ true ↦ Contains-append_right (at ∷ []) _ _ rest | false ↦ rest ]
+    cond_both (eqb (h % count) b) (at ∷ places_from count b (at + 1) hs) (places_from count b (at + 1) hs)
+    (λ (ps : List ℕ). Contains ps (at + suc i))
+    (λ t. Contains-append_right (at ∷ []) _ _ rest) (λ t. rest)
 
 -- a placed symbol whose hash falls in a bucket is on the chain of that bucket
 pub chain-complete : (count b : ℕ) (hs : List ℕ) (i : ℕ) → i < length hs → get_or hs i 0 % count ≡ b →
@@ -307,24 +281,16 @@ pub unput : (s h : ℕ) (es front behind : List (ℕ × ℕ)) → insert_sorted 
     (rest : List (ℕ × ℕ)) × (behind ≡ (s, h) ∷ rest) × (es ≡ front ++ rest)
 unput s h [] [] behind e a l = ([], sym e, refl)
 unput s h [] (f ∷ fs) behind e a l =
-    (let q : f ≡ (s, h) = cc in let r : f.1 ≡ h = ap (λ (x : ℕ × ℕ). x.1) q in absurd (omega (arith, r, a.0)))
+    (let q : f ≡ (s, h) = cc in absurd (omega (arith, ap (λ (y : ℕ × ℕ). y.1) q, a.0)))
 unput s h (x ∷ xs) [] behind e a l =
     let cases : (t : Bool) → ltb x.1 h ≡ t → cond t (x ∷ insert_sorted s h xs) ((s, h) ∷ x ∷ xs) ≡ behind →
     (rest : List (ℕ × ℕ)) × (behind ≡ (s, h) ∷ rest) × (x ∷ xs ≡ rest) = grind (arith, common_steps) in
     cases (ltb x.1 h) refl e
 unput s h (x ∷ xs) (f ∷ fs) behind e a l =
-    let cases : (t : Bool) → cond t (x ∷ insert_sorted s h xs) ((s, h) ∷ x ∷ xs) ≡ f ∷ fs ++ behind →
-    (rest : List (ℕ × ℕ)) × (behind ≡ (s, h) ∷ rest) × (x ∷ xs ≡ f ∷ fs ++ rest) = elim [
-      | true ↦ λ e'.
-          (let same : x ≡ f = cc in
-          let tail : insert_sorted s h xs ≡ fs ++ behind = cc in
-          let r = unput s h xs fs behind tail a.1 l in
-          let q : xs ≡ fs ++ r.0 = r.2 in
-          (r.0, r.1, rw (same, q) refl))
-      | false ↦ λ e'. (let q : f ≡ (s, h) = cc in let r : f.1 ≡ h = ap (λ (y : ℕ × ℕ). y.1) q in
-          absurd (omega (arith, r, a.0)))
-    ] in
-    cases (ltb x.1 h) e
+    cond_both (ltb x.1 h) _ _ (λ (ys : List (ℕ × ℕ)). ys ≡ f ∷ fs ++ behind →
+    (rest : List (ℕ × ℕ)) × (behind ≡ (s, h) ∷ rest) × (x ∷ xs ≡ f ∷ fs ++ rest)) (λ t e'.
+    (let r = unput s h xs fs behind (cc) a.1 l in (r.0, r.1, (let q : xs ≡ fs ++ r.0 = r.2 in cc)))) (λ t e'.
+    (let q : f ≡ (s, h) = cc in absurd (omega (arith, ap (λ (y : ℕ × ℕ). y.1) q, a.0)))) e
 
 -- where no hash was placed each bucket is empty
 pub none-placed : (v : Placed) (b : ℕ) → v.hashes ≡ [] → chain v b ≡ []

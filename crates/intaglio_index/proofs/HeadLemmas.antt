@@ -4,7 +4,7 @@ use Rattle.std.specs.List.{AllByRecursion, IsDistinct}
 use Rattle.std.specs.Option.{is_some}
 use Rattle.std.proofs.lemmas.Bool.{eqb-false, true≢false, false≢true}
 use Rattle.std.proofs.lemmas.Bool.Decides.{eqb_tells}
-use Rattle.std.proofs.lemmas.List.{get_or-set_same, get_or-set_other, length-set, set-get_or, map-append, get_or_read}
+use Rattle.std.proofs.lemmas.List.{get_or-set_same, get_or-set_other, length-set, set-get_or, get_or_read}
 use Rattle.intaglio_index.specs.declared.index.head.Head.{Head}
 use Rattle.intaglio_symbol.specs.declared.symbol.Symbol.{Symbol}
 use Rattle.intaglio_index.specs.declared.index.modulus.Modulus.{Modulus}
@@ -12,11 +12,11 @@ use Rattle.intaglio_index.specs.Filter.{IsFiltered, IsMarked}
 use Rattle.intaglio_index.specs.Modulus.{IsModulus}
 use Rattle.intaglio_index.specs.Links.{IsThread, IsLinked, next_of}
 use Rattle.intaglio_index.proofs.FilterLemmas.{filtered-push, filtered-take, filtered-vacated, marked-some}
-use Rattle.intaglio_index.proofs.LinkLemmas.{others_stay}
+use Rattle.intaglio_index.proofs.LinkLemmas.{others_stay, path_within}
 use Rattle.std.proofs.lemmas.Grind.{common_steps}
 use Rattle.intaglio_index.specs.Placed.{Placed, chain, IsEntry, chain_from, first_symbol_of, symbols_of, insert_sorted, BeginsAtOrAbove, IsPredecessor}
 use Rattle.intaglio_index.specs.Heads.{IsWord, IsHead, IsHeaded}
-use Rattle.intaglio_index.proofs.ChainLemmas.{put-some, put-behind, insert_sorted-between, chain-grows, chain-stays, Each-right, chain-entries}
+use Rattle.intaglio_index.proofs.ChainLemmas.{put-some, put-behind, insert_sorted-between, chain-grows, chain-stays, symbol_at, chain-entries}
 
 -- a head whose words are both 0
 abbrev pub no_head : Head
@@ -41,12 +41,6 @@ pub some_entries : (es : List (ℕ × ℕ)) → (es ≡ [] → ⊥) → (e : ℕ
 some_entries [] n = absurd (n refl)
 some_entries (x ∷ xs) n = (x, xs, refl)
 
--- what comes behind an entry changes no words of those in front of it
-head_kept : (size : ℕ) (head : Head) (x : ℕ × ℕ) (front : List (ℕ × ℕ)) (e : ℕ × ℕ) (xs ys : List (ℕ × ℕ)) →
-    IsHead size head (x ∷ front ++ e ∷ xs) → IsHead size head (x ∷ front ++ e ∷ ys)
-head_kept size head x [] e xs ys is = is
-head_kept size head x (y ∷ front) e xs ys is = is
-
 -- a symbol is put into a bucket
 module _ (size s h word : ℕ) (is_word : IsWord size (s, h) word) where
   pub head_alone : (path : List (ℕ × ℕ)) → path ≡ [] →
@@ -69,12 +63,7 @@ module _ (size s h word : ℕ) (is_word : IsWord size (s, h) word) where
   unfolding IsDistinct
   second_at head [] last hash behind apart is leads = (is.0, is_word)
   second_at head (x ∷ front) last hash behind apart is leads =
-      let same : last ≡ x.0 = cc in
-      let parts = rw (map-append (λ (e : ℕ × ℕ). e.0) front ((last, hash) ∷ behind)) at apart.0 in
-      let differ : x.0 ≢ last =
-      eqb-false x.0 last (Each-right (λ y. eqb x.0 y ≡ false) (symbols_of front) (last ∷ symbols_of behind)
-      parts).0 in
-      absurd (differ (sym same))
+      absurd (eqb-false x.0 last (symbol_at (λ s. eqb x.0 s ≡ false) front (last, hash) behind apart.0) cc)
 
   pub head_second : (head : Head) (path : List (ℕ × ℕ)) (last : ℕ) → IsDistinct eqb (symbols_of path) →
       IsHead size head path → Some last ≡ first_symbol_of path → IsPredecessor h path last →
@@ -89,10 +78,9 @@ module _ (size s h word : ℕ) (is_word : IsWord size (s, h) word) where
       IsHead size head (front ++ (last, hash) ∷ behind) →
       Some first ≡ first_symbol_of (front ++ (last, hash) ∷ behind) → first ≢ last →
       IsHead size head (front ++ (last, hash) ∷ (s, h) ∷ behind)
-  later_at head [] first last hash behind is leads other =
-      (let same : first ≡ last = cc in absurd (other same))
-  later_at head (x ∷ front) first last hash behind is leads other =
-      head_kept size head x front (last, hash) behind ((s, h) ∷ behind) is
+  later_at head [] first last hash behind is leads other = absurd (other cc)
+  later_at head (x ∷ []) first last hash behind is leads other = is
+  later_at head (x ∷ y ∷ front) first last hash behind is leads other = is
 
   pub head_stays : (head : Head) (path : List (ℕ × ℕ)) (first last : ℕ) → IsHead size head path →
       Some first ≡ first_symbol_of path → first ≢ last → IsPredecessor h path last →
@@ -108,68 +96,17 @@ never_behind h path last none pred =
     (let parts : [] ≡ pred.front ++ (last, pred.hash) ∷ pred.behind = sym none ∙ pred.split in
     omega (arith, ap length parts, length-append pred.front ((last, pred.hash) ∷ pred.behind)))
 
--- one bucket changes
-module _ (size : ℕ) (heads : List Head) (filters hashes later : List ℕ) (k : ℕ) (within : k < length heads)
-    (sizes : length filters ≡ length heads)
-    (others : (b : ℕ) → b ≢ k →
-    chain_from (length heads) b 0 [] later ≡ chain_from (length heads) b 0 [] hashes)
-    (headed : IsHeaded size heads filters hashes) where
-  pub headed_changed : (head : Head) (filter : ℕ) → (filter ≡ 0) ↔
-      (chain_from (length heads) k 0 [] later ≡ []) →
-      IsHead size head (chain_from (length heads) k 0 [] later) →
-      IsHeaded size (set heads k head) (set filters k filter) later
-  headed_changed head filter empty_bucket is =
-      let count : length (set heads k head) ≡ length heads = length-set heads k head in
-      let lf : k < length filters = omega arith in
-      let empty_bucket_at : (b : ℕ) → b < length heads → (get_or (set filters k filter) b 0 ≡ 0) ↔
-      (chain_from (length heads) b 0 [] later ≡ []) = λ b l.
-      elim (eqb_tells b k) [
-        | inl h ↦ rw (h.1, get_or-set_same filters k filter 0 lf) empty_bucket
-        | inr h ↦ rw (get_or-set_other filters k b filter 0 h.1, others b h.1) (headed.empty_bucket b l)
-      ] in
-      let words_at : (b : ℕ) → b < length heads →
-      IsHead size (get_or (set heads k head) b no_head) (chain_from (length heads) b 0 [] later) = λ b l.
-      elim (eqb_tells b k) [
-        | inl h ↦ rw (h.1, get_or-set_same heads k head no_head within) is
-        | inr h ↦ rw (get_or-set_other heads k b head no_head h.1, others b h.1) (headed.words b l)
-      ] in
-      record {
-        empty_bucket = λ b l. rw count (empty_bucket_at b (omega (arith, l, count)));
-        words =
-            λ b l. rw count (words_at b (omega (arith, l, count)));
-      }
-
-  pub headed_head : (head : Head) → (get_or filters k 0 ≡ 0) ↔ (chain_from (length heads) k 0 [] later ≡ []) →
-      IsHead size head (chain_from (length heads) k 0 [] later) →
-      IsHeaded size (set heads k head) filters later
-  headed_head head empty_bucket is =
-      rw (set-get_or filters k 0) at (headed_changed head (get_or filters k 0) empty_bucket is)
-
-  pub headed_filter : (filter : ℕ) → (filter ≡ 0) ↔ (chain_from (length heads) k 0 [] later ≡ []) →
-      IsHead size (get_or heads k no_head) (chain_from (length heads) k 0 [] later) →
-      IsHeaded size heads (set filters k filter) later
-  headed_filter filter empty_bucket is =
-      rw (set-get_or heads k no_head) at (headed_changed (get_or heads k no_head) filter empty_bucket is)
-
 -- the head of a list that is read off the hashes and links
 module _ (hashes links : List ℕ) (s : ℕ) where
   pub thread_within : (path : List (ℕ × ℕ)) → IsThread hashes links (Some s) path → s < length hashes
-  thread_within [] t = (let never = t.path in cc)
-  thread_within (e ∷ es) t =
-      (let same : s ≡ e.0 = (let q = t.path.0 in cc) in omega (arith, same, t.read.0.0))
+  thread_within path t = path_within _ (next_of links) (Some s) _ path t.read (λ e is. is.0) t.path s refl
 
   pub thread_next : (path : List (ℕ × ℕ)) (next : ℕ) → IsThread hashes links (Some s) path →
       next_of links s ≡ Some next → next < length hashes
   thread_next [] next t e = (let never = t.path in cc)
-  thread_next (x ∷ []) next t e =
+  thread_next (x ∷ es) next t e =
       let same : s ≡ x.0 = (let q = t.path.0 in cc) in
-      let none : next_of links s ≡ None = ap (next_of links) same ∙ t.path.1 in
-      cc
-  thread_next (x ∷ f ∷ fs) next t e =
-      let same : s ≡ x.0 = (let q = t.path.0 in cc) in
-      let some : next_of links s ≡ Some f.0 = ap (next_of links) same ∙ t.path.1.0 in
-      let number : next ≡ f.0 = cc in
-      omega (arith, number, t.read.1.0.0)
+      path_within _ (next_of links) (next_of links x.0) _ es t.read.1 (λ e is. is.0) t.path.1 next (rw same at e)
 
 -- a bucket with a symbol, and its head
 pub record IsOccupied (v : Placed) (k size : ℕ) (head : Head) : Type 0 where
@@ -251,6 +188,36 @@ module _ {m : Modulus} {heads : List Head} {filters hashes : List ℕ} {links : 
   head_read k head within read =
       rw (← get_or_read heads k head within read no_head) at (holds.headed.words k within)
 
+  -- one bucket changes
+  holds_changed : (later : List ℕ) (after : List Symbol) (k : ℕ) (head : Head) (filter : ℕ) → k < length heads →
+      ((b : ℕ) → b ≢ k →
+      chain_from (length heads) b 0 [] later ≡ chain_from (length heads) b 0 [] hashes) →
+      (filter ≡ 0) ↔ (chain_from (length heads) k 0 [] later ≡ []) →
+      IsHead (m.mask + 1) head (chain_from (length heads) k 0 [] later) → IsLinked (length heads) later after →
+      IsFiltered (set filters k filter) (length heads) later →
+      Holds m (set heads k head) (set filters k filter) later after
+  holds_changed later after k head filter within others empty is linked filtered =
+      let count = length-set heads k head in
+      let lf : k < length filters = omega (arith, holds.filtered.size) in
+      record {
+        modulus = holds.modulus;
+        counted = holds.counted ∙ sym count;
+        linked = rw count linked;
+        headed = record {
+          empty_bucket = λ b l. rw count (elim (eqb_tells b k) [
+            | inl h ↦ rw (h.1, get_or-set_same filters k filter 0 lf) empty
+            | inr h ↦ rw (get_or-set_other filters k b filter 0 h.1, others b h.1)
+                (holds.headed.empty_bucket b (omega (arith, l, count)))
+          ]);
+          words = λ b l. rw count (elim (eqb_tells b k) [
+            | inl h ↦ rw (h.1, get_or-set_same heads k head no_head within) is
+            | inr h ↦ rw (get_or-set_other heads k b head no_head h.1, others b h.1)
+                (holds.headed.words b (omega (arith, l, count)))
+          ]);
+        };
+        filtered = rw count filtered;
+      }
+
   -- one hash more
   pub holds_pushed : (hash mark filter : ℕ) (head : Head) (after : List Symbol) →
       hash % length heads < length heads → filter ≡ get_or filters (hash % length heads) filter →
@@ -262,23 +229,14 @@ module _ {m : Modulus} {heads : List Head} {filters hashes : List ℕ} {links : 
       (hashes ++ hash ∷ []) after
   holds_pushed hash mark filter head after within read marked kept is linked =
       let k : ℕ = hash % length heads in
-      let lf : k < length filters = omega (arith, holds.filtered.size) in
-      let same = get_or_read filters k filter lf read 0 in
-      let size = length-set heads k head in
+      let same = get_or_read filters k filter (omega (arith, holds.filtered.size)) read 0 in
       let grows = chain-grows (length heads) hashes hash in
-      record {
-        modulus = holds.modulus;
-        counted = holds.counted ∙ sym size;
-        linked = rw size linked;
-        headed = headed_changed (m.mask + 1) heads filters hashes (hashes ++ hash ∷ []) k within
-            holds.filtered.size
-            (λ b other. chain-stays (length heads) b hashes hash other) holds.headed head mark
-            (neither (marked-some mark hash marked)
-            (λ e. put-some (length hashes) hash (chain_from (length heads) k 0 [] hashes) (sym grows ∙ e)))
-            (rw grows is);
-        filtered = rw size (filtered-push filters (length heads) hashes hash mark holds.filtered within marked
-            (λ other m. kept other (rw (← same) at m)));
-      }
+      holds_changed (hashes ++ hash ∷ []) after k head mark within
+      (λ b other. chain-stays (length heads) b hashes hash other)
+      (neither (marked-some mark hash marked)
+      (λ e. put-some (length hashes) hash (chain_from (length heads) k 0 [] hashes) (sym grows ∙ e)))
+      (rw grows is) linked (filtered-push filters (length heads) hashes hash mark holds.filtered within marked
+      (λ other m. kept other (rw (← same) at m)))
 
   -- the last hash was taken out
   module _ (hash i : ℕ) (last : i + 1 ≡ length hashes) (read : hash ≡ get_or hashes i hash) where
@@ -293,14 +251,10 @@ module _ {m : Modulus} {heads : List Head} {filters hashes : List ℕ} {links : 
     pub holds_vacated : (after : List Symbol) → IsLinked (length heads) (take i hashes) after →
         chain_from (length heads) (hash % length heads) 0 [] (take i hashes) ≡ [] →
         Holds m heads (set filters (hash % length heads) 0) (take i hashes) after
-    holds_vacated after linked empty = record {
-      modulus = holds.modulus;
-      counted = holds.counted;
-      linked = linked;
-      headed = headed_filter _ _ _ _ _ _ within holds.filtered.size (others_stay holds.linked hash i last read)
-          holds.headed 0 (λ e. empty, λ e. refl) (rw empty tt);
-      filtered = filtered-vacated _ _ _ _ (filtered-take _ _ _ i holds.filtered) empty;
-    }
+    holds_vacated after linked empty = rw (set-get_or heads (hash % length heads) no_head) at
+        (holds_changed (take i hashes) after (hash % length heads) (get_or heads (hash % length heads) no_head) 0 within
+        (others_stay holds.linked hash i last read) (λ e. empty, λ e. refl) (rw empty tt) linked
+        (filtered-vacated _ _ _ _ (filtered-take _ _ _ i holds.filtered) empty))
 
     -- and begins with this symbol
     pub holds_read : (after : List Symbol) (head : Head) (first : Symbol) →
@@ -309,16 +263,10 @@ module _ {m : Modulus} {heads : List Head} {filters hashes : List ℕ} {links : 
         IsHead (m.mask + 1) head (chain_from (length heads) (hash % length heads) 0 [] (take i hashes)) →
         Holds m (set heads (hash % length heads) head) filters (take i hashes) after
     holds_read after head first linked leads is =
-        let size = length-set heads (hash % length heads) head in
-        record {
-          modulus = holds.modulus;
-          counted = holds.counted ∙ sym size;
-          linked = rw size linked;
-          headed = headed_head _ _ _ _ _ _ within holds.filtered.size
-              (others_stay holds.linked hash i last read) holds.headed head
-              (neither marked (led_some _ _ leads)) is;
-          filtered = rw size (filtered-take _ _ _ i holds.filtered);
-        }
+        let same = set-get_or filters (hash % length heads) 0 in
+        rw same at (holds_changed (take i hashes) after (hash % length heads) head (get_or filters (hash % length heads) 0) within
+        (others_stay holds.linked hash i last read) (neither marked (led_some _ _ leads)) is linked
+        (rw same (filtered-take _ _ _ i holds.filtered)))
 
 -- whether a bucket has no symbol
 pub alone_is : (path : List (ℕ × ℕ)) (first_symbol : Option ℕ) (alone : Bool) →

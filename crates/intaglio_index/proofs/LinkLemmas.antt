@@ -110,6 +110,14 @@ leader_same : (front : List (ℕ × ℕ)) (e : ℕ × ℕ) (xs ys : List (ℕ ×
 leader_same [] e xs ys = refl
 leader_same (x ∷ front) e xs ys = refl
 
+-- no path begins past the placed symbols
+pub path_within : (P : ℕ × ℕ → Type 0) (next : ℕ → Option Symbol) (start : Option Symbol) (n : ℕ)
+    (es : List (ℕ × ℕ)) → AllByRecursion P es → ((e : ℕ × ℕ) → P e → e.0 < n) →
+    IsPath next start (symbols_of es) → (t : Symbol) → start ≡ Some t → t < n
+path_within P next start n [] a f h t e = (let never : Some t ≡ None = sym e ∙ h in cc)
+path_within P next start n (x ∷ es) a f h t e =
+    (let same : Some t ≡ Some x.0 = sym e ∙ h.0 in let q : t ≡ x.0 = cc in omega (arith, q, f x a.0))
+
 -- a list of at most 0 hashes is empty
 none_left : (hashes : List ℕ) → length hashes ≤ 0 → hashes ≡ []
 none_left [] l = refl
@@ -155,25 +163,19 @@ module _ {count : ℕ} {hashes : List ℕ} {links : List Symbol} (linked : IsLin
       rw e (read_path (next_of links s) b rest (chain-entry count b hashes before (s, hash) rest split).1
       (behind b before (s, hash) rest split))
 
-  -- no path begins past the placed symbols
-  start_within : (start : Option Symbol) (b : ℕ) (es : List (ℕ × ℕ)) →
-      AllByRecursion (IsEntry count b hashes) es → IsPath (next_of links) start (symbols_of es) →
-      (t : Symbol) → start ≡ Some t → t < length hashes
-  start_within start b [] a h t e = (let never : Some t ≡ None = sym e ∙ h in cc)
-  start_within start b (x ∷ es) a h t e = (let same : Some t ≡ Some x.0 = sym e ∙ h.0 in
-      let q : t ≡ x.0 = cc in omega (arith, q, a.0.0))
-
   -- each symbol is on the path of its bucket, so no link leads past the placed ones
   pub link_within : (s : ℕ) (t : Symbol) → s < length hashes → next_of links s ≡ Some t → t < length hashes
   link_within s t l e =
       let k : ℕ = get_or hashes s 0 % count in
       let here = entry-split (bucket k) s (chain-complete count k hashes s l refl) in
-      start_within (next_of links s) k here.2 (chain-entry count k hashes here.0 here.1 here.2 here.3).1
+      path_within (IsEntry count k hashes) (next_of links) (next_of links s) (length hashes) here.2
+      (chain-entry count k hashes here.0 here.1 here.2 here.3).1 (λ e is. is.0)
       (rw here.4 at (behind k here.0 here.1 here.2 here.3)) t e
 
   -- a bucket's first symbol is among the placed ones
   pub leader_within : (b : ℕ) (s : Symbol) → first_symbol_of (bucket b) ≡ Some s → s < length hashes
-  leader_within b s e = start_within _ b (bucket b) (chain-each count b hashes) (linked.paths b) s e
+  leader_within b s e = path_within (IsEntry count b hashes) (next_of links) _ (length hashes) (bucket b)
+      (chain-each count b hashes) (λ e is. is.0) (linked.paths b) s e
 
   -- a predecessor is among the placed symbols
   pub predecessor_within : (hash b p : ℕ) → IsPredecessor hash (bucket b) p → p < length hashes
