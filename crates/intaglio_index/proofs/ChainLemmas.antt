@@ -9,7 +9,7 @@ use Rattle.std.proofs.lemmas.List.Elements.{All-from_recursion, Contains-append_
 use Rattle.std.proofs.lemmas.List.Kept.{AllPairs-cons}
 use Rattle.std.proofs.lemmas.List.Sorted.{IsPermutation-refl, IsPermutation-trans, IsPermutation-middle, IsPermutation-sym, IsPermutation-cons, IsPermutation-append_right, Contains-permutation}
 use Rattle.std.proofs.lemmas.Map.Keys.{IsDistinct-IsPermutation}
-use Rattle.intaglio_index.specs.Placed.{Placed, chain, chain_from, places_from, members, insert_sorted, symbols_of, AreSorted, BeginsAtOrAbove, IsPredecessor, IsEntry, IsBucket}
+use Rattle.intaglio_index.specs.Placed.{Placed, chain, chain_from, places_from, insert_sorted, symbols_of, AreSorted, BeginsAtOrAbove, IsPredecessor, IsEntry, IsBucket}
 
 -- the test of two numbers for equality is symmetric
 pub eqb-flips : (a b : ℕ) → eqb a b ≡ eqb b a
@@ -60,11 +60,8 @@ insert_sorted-between s h (e ∷ es) behind a l =
 pub put-behind : (s h : ℕ) (path : List (ℕ × ℕ)) (last : ℕ) (pred : IsPredecessor h path last) →
     insert_sorted s h path ≡ pred.front ++ (last, pred.hash) ∷ (s, h) ∷ pred.behind
 put-behind s h path last pred =
-    let joined : path ≡ (pred.front ++ (last, pred.hash) ∷ []) ++ pred.behind =
-    pred.split ∙ sym (append_assoc pred.front ((last, pred.hash) ∷ []) pred.behind) in
-    ap (insert_sorted s h) joined
-    ∙ insert_sorted-between s h (pred.front ++ (last, pred.hash) ∷ []) pred.behind pred.smaller pred.others
-    ∙ append_assoc pred.front ((last, pred.hash) ∷ []) ((s, h) ∷ pred.behind)
+    ap (insert_sorted s h) pred.split ∙ simp append_assoc at (insert_sorted-between s h
+    (pred.front ++ (last, pred.hash) ∷ []) pred.behind pred.smaller pred.others)
 
 -- a list with a symbol inserted isn't empty
 pub put-some : (s h : ℕ) (es : List (ℕ × ℕ)) → insert_sorted s h es ≡ [] → ⊥
@@ -107,11 +104,10 @@ chain_from-each : (count b : ℕ) (all before hs : List ℕ) (met : List (ℕ ×
     AllByRecursion (IsEntry count b all) (chain_from count b (length before) met hs)
 chain_from-each count b all before [] met e a = a
 chain_from-each count b all before (h ∷ hs) met e a =
-    let more : length (before ++ h ∷ []) ≡ length before + 1 = length-append before (h ∷ []) in
-    let split : all ≡ (before ++ h ∷ []) ++ hs = e ∙ sym (append_assoc before (h ∷ []) hs) in
     let cases : (t : Bool) → eqb (h % count) b ≡ t →
     AllByRecursion (IsEntry count b all) (cond t (insert_sorted (length before) h met) met) = grind (arith, common_steps, insert_sorted-each, length-append, get_or_at, eqb-true) in
-    rw (← more) (chain_from-each count b all (before ++ h ∷ []) hs _ split (cases (eqb (h % count) b) refl))
+    rw (← length-append before (h ∷ [])) (chain_from-each count b all (before ++ h ∷ []) hs _
+    (e ∙ sym (append_assoc before (h ∷ []) hs)) (cases (eqb (h % count) b) refl))
 
 -- each entry of a chain is a placed symbol of its bucket with its hash
 pub chain-each : (count b : ℕ) (hs : List ℕ) →
@@ -154,10 +150,10 @@ chain_from-permutation count b at met (h ∷ hs) =
     ]
 
 -- the symbols of a bucket's chain are its members, in some order
-pub chain-permutation : (v : Placed) (b : ℕ) → IsPermutation (members v b) (symbols_of (chain v b))
-unfolding chain
-chain-permutation v b = let e = append-nil (places_from v.count b 0 v.hashes) in
-    rw e at (chain_from-permutation v.count b 0 [] v.hashes)
+chain-permutation : (count b : ℕ) (hs : List ℕ) →
+    IsPermutation (places_from count b 0 hs) (symbols_of (chain_from count b 0 [] hs))
+chain-permutation count b hs =
+    rw (append-nil (places_from count b 0 hs)) at (chain_from-permutation count b 0 [] hs)
 
 -- the places of a bucket are distinct
 places-above : (count b at : ℕ) (hs : List ℕ) → AllByRecursion (λ s. at ≤ s) (places_from count b at hs)
@@ -183,9 +179,7 @@ places-distinct count b at (h ∷ hs) =
 -- no symbol occurs twice on a chain
 pub chain-distinct : (count b : ℕ) (hs : List ℕ) → IsDistinct eqb (symbols_of (chain_from count b 0 [] hs))
 chain-distinct count b hs =
-    let e = append-nil (places_from count b 0 hs) in
-    IsDistinct-IsPermutation eqb eqb-flips _ _ (rw e at (chain_from-permutation count b 0 [] hs))
-    (places-distinct count b 0 hs)
+    IsDistinct-IsPermutation eqb eqb-flips _ _ (chain-permutation count b hs) (places-distinct count b 0 hs)
 
 -- the hashes along a chain do not decrease
 abbrev pub InOrder : List (ℕ × ℕ) → Type 0
@@ -220,11 +214,6 @@ sorted-from-order (e ∷ es) o =
     AllPairs-cons (λ (e f : ℕ × ℕ). e.1 ≤ f.1) e es (All-from_recursion (λ (f : ℕ × ℕ). e.1 ≤ f.1) es o.0)
     (sorted-from-order es o.1)
 
--- of each two entries of a bucket's chain the first has no greater hash
-pub chain-sorted : (v : Placed) (b : ℕ) → AreSorted (chain v b)
-unfolding chain
-chain-sorted v b = sorted-from-order _ (chain_from-in_order v.count b 0 [] v.hashes tt)
-
 -- the hashes along a bucket's chain don't decrease
 pub chain-in_order : (v : Placed) (b : ℕ) → InOrder (chain v b)
 unfolding chain
@@ -237,7 +226,12 @@ chain-entries v b = chain-each v.count b v.hashes
 
 -- the chain of a hash's bucket has exactly the symbols of the bucket, each once, in the order of their hashes
 pub chain-bucket : (v : Placed) (h : ℕ) → IsBucket v h
-chain-bucket v h = grind (arith, common_steps, chain-permutation, chain-sorted, chain-entries)
+unfolding chain
+chain-bucket v h = record {
+  members = chain-permutation v.count (h % v.count) v.hashes;
+  sorted = sorted-from-order _ (chain-in_order v (h % v.count));
+  hashes = chain-each v.count (h % v.count) v.hashes;
+}
 
 -- each place of a bucket is on its chain
 pub places-complete : (count b at : ℕ) (hs : List ℕ) (i d : ℕ) → i < length hs → get_or hs i d % count ≡ b →
@@ -256,24 +250,16 @@ places-complete count b at (h ∷ hs) (suc i) d l e =
 pub chain-complete : (count b : ℕ) (hs : List ℕ) (i : ℕ) → i < length hs → get_or hs i 0 % count ≡ b →
     Contains (symbols_of (chain_from count b 0 [] hs)) i
 chain-complete count b hs i l e =
-    let none = append-nil (places_from count b 0 hs) in
     let z : 0 + i ≡ i = omega arith in
-    Contains-permutation _ _ i (rw none at (chain_from-permutation count b 0 [] hs))
-    (rw z at (places-complete count b 0 hs i 0 l e))
+    Contains-permutation _ _ i (chain-permutation count b hs) (rw z at (places-complete count b 0 hs i 0 l e))
 
 -- a list of entries that has a symbol is split at an entry with it
 pub entry-split : (es : List (ℕ × ℕ)) (s : ℕ) → Contains (symbols_of es) s → (before : List (ℕ × ℕ))
     × (e : ℕ × ℕ) × (behind : List (ℕ × ℕ)) × (es ≡ before ++ e ∷ behind) × (e.0 ≡ s)
 entry-split [] s h = absurd (omega (arith, h.1))
-entry-split (x ∷ xs) s h =
-    let cases : (k : ℕ) → k < length (symbols_of (x ∷ xs)) → get_or (symbols_of (x ∷ xs)) k s ≡ s →
-    (before : List (ℕ × ℕ)) × (e : ℕ × ℕ) × (behind : List (ℕ × ℕ)) × (x ∷ xs ≡ before ++ e ∷ behind)
-    × (e.0 ≡ s) = elim [
-      | zero ↦ λ l q. ([], x, xs, refl, q)
-      | suc k ↦ λ l q. (let r = entry-split xs s (k, omega arith, q) in
-          (x ∷ r.0, r.1, r.2, ap (λ ys. x ∷ ys) r.3, r.4))
-    ] in
-    cases h.0 h.1 h.2
+entry-split (x ∷ xs) s (zero, l, q) = ([], x, xs, refl, q)
+entry-split (x ∷ xs) s (suc k, l, q) =
+    let r = entry-split xs s (k, omega arith, q) in (x ∷ r.0, r.1, r.2, ap (λ ys. x ∷ ys) r.3, r.4)
 
 -- what put put in stands behind the smaller hashes, and the rest is what was there
 pub unput : (s h : ℕ) (es front behind : List (ℕ × ℕ)) → insert_sorted s h es ≡ front ++ behind →

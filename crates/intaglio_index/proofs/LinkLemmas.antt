@@ -293,10 +293,8 @@ module _ {count : ℕ} {hashes : List ℕ} {links : List Symbol} (linked : IsLin
     parted : (p : ℕ) (pred : IsPredecessor hash (bucket (hash % count)) p) → (rest : List (ℕ × ℕ))
         × (pred.behind ≡ (i, hash) ∷ rest) × (left (hash % count) ≡ pred.front ++ (p, pred.hash) ∷ rest)
     parted p pred =
-        let joined : bucket (hash % count) ≡ (pred.front ++ (p, pred.hash) ∷ []) ++ pred.behind =
-        pred.split ∙ sym (append_assoc pred.front ((p, pred.hash) ∷ []) pred.behind) in
         let r = unput i hash (left (hash % count)) (pred.front ++ (p, pred.hash) ∷ []) pred.behind
-        (sym grows ∙ joined) pred.smaller pred.others in
+        (sym grows ∙ pred.split ∙ sym (append_assoc pred.front ((p, pred.hash) ∷ []) pred.behind)) pred.smaller pred.others in
         (r.0, r.1, r.2 ∙ append_assoc pred.front ((p, pred.hash) ∷ []) r.0)
 
     -- the predecessor is not the last symbol itself

@@ -1,9 +1,9 @@
 -- What a search along a bucket finds.
 use Rattle.std.proofs.lemmas.Grind.{common_steps}
-use Rattle.std.proofs.Common.{◌≡◌, ◌≢◌, ◌⊎◌, ℕ, ◌+◌, ◌*◌, ◌/◌, ◌%◌, ◌<◌, ◌≤◌, Bool, true, false, List, [], ◌∷◌, ◌++◌, length, get_or, replicate, Option, Some, None, refl, sym, ap, ◌∙◌, arith, inl, inr, append_assoc, length-append}
+use Rattle.std.proofs.Common.{cond, eqb, ◌≡◌, ◌≢◌, ◌⊎◌, ℕ, ◌+◌, ◌*◌, ◌/◌, ◌%◌, ◌<◌, ◌≤◌, Bool, true, false, List, [], ◌∷◌, ◌++◌, length, get_or, replicate, Option, Some, None, refl, sym, ap, ◌∙◌, arith, inl, inr, append_assoc, length-append}
 use Rattle.std.specs.Option.{MatchOption, IfSome}
 use Rattle.std.specs.List.{AllByRecursion, IsDistinct}
-use Rattle.std.proofs.lemmas.Bool.{eqb-false, eq-eqb, ne_eqb, true≢false}
+use Rattle.std.proofs.lemmas.Bool.{eqb-false, true≢false}
 use Rattle.std.proofs.lemmas.Bool.Decides.{eqb_tells}
 use Rattle.std.proofs.lemmas.List.{get_or_default}
 use Rattle.std.proofs.lemmas.List.Elements.{recursion_from_All}
@@ -12,7 +12,7 @@ use Rattle.intaglio_index.specs.declared.index.head.Head.{Head}
 use Rattle.intaglio_index.specs.Placed.{Placed, chain, chain_from, head_of, first_symbol_with, IsEntry, BeginsAtOrAbove, IsPredecessor}
 use Rattle.intaglio_index.specs.Found.{IsFound, IsPassed, IsBehind, IsReached, IsAt}
 use Rattle.intaglio_index.specs.Heads.{IsHead, IsWord}
-use Rattle.intaglio_index.proofs.ChainLemmas.{Each-weaker, Each-right, Each-append, chain-complete, chain-each, chain-entries, chain-in_order, entry-split, InOrder}
+use Rattle.intaglio_index.proofs.ChainLemmas.{Each-weaker, Each-right, Each-append, chain-complete, chain-entry, chain-entries, chain-in_order, entry-split, InOrder}
 use Rattle.intaglio_index.proofs.HeadLemmas.{IsOccupied, first_within, second_within}
 use Rattle.intaglio_index.proofs.Words.{same_number, high_below, high_above, block_below, below_block, word_same}
 use Rattle.intaglio_index.proofs.WalkLemmas.{standing, moves, distinct}
@@ -27,8 +27,7 @@ absent_on v hash none =
     (let at : get_or v.hashes i 0 ≡ hash = get_or_default v.hashes i 0 d l ∙ e in
     let found = chain-complete v.count (hash % v.count) v.hashes i l (rw at refl) in
     let parts = entry-split (chain_from v.count (hash % v.count) 0 [] v.hashes) i found in
-    let each = rw parts.3 at (chain-each v.count (hash % v.count) v.hashes) in
-    let entry = (Each-right (IsEntry v.count (hash % v.count) v.hashes) parts.0 (parts.1 ∷ parts.2) each).0 in
+    let entry = (chain-entry v.count (hash % v.count) v.hashes parts.0 parts.1 parts.2 parts.3).0 in
     let other = (Each-right (λ (x : ℕ × ℕ). x.1 ≢ hash) parts.0 (parts.1 ∷ parts.2) (rw parts.3 at none)).0 in
     other (sym (entry.1 0) ∙ ap (λ s. get_or v.hashes s 0) parts.4 ∙ at)))
 
@@ -196,31 +195,23 @@ module _ (v : Placed) (h size : ℕ) (head : Head) (some : 0 < size) where
         events = events;
       }
 
--- the symbol behind one, if it has the same hash
-pub next_with : (candidate : Option (ℕ × ℕ)) (behind : List (ℕ × ℕ)) (s k h : ℕ) →
-    candidate ≡ head_of behind → candidate ≡ Some (s, k) → k ≡ h → Some s ≡ first_symbol_with h behind
-next_with candidate [] s k h e f same = (let never = sym e ∙ f in cc)
-next_with candidate (x ∷ xs) s k h e f same = (let is : x ≡ (s, k) = cc in rw (is, eq-eqb k h same) refl)
+-- the symbol of an entry, if there is one with this hash
+abbrev with_hash : ℕ → Option (ℕ × ℕ) → Option ℕ
+with_hash h None = None
+with_hash h (Some e) = cond (eqb e.1 h) (Some e.0) None
 
--- if the next entry has another hash, there is no next symbol with this one
-pub next_without : (candidate : Option (ℕ × ℕ)) (behind : List (ℕ × ℕ)) (s k h : ℕ) →
-    candidate ≡ head_of behind → candidate ≡ Some (s, k) → k ≢ h → None ≡ first_symbol_with h behind
-next_without candidate [] s k h e f other = refl
-next_without candidate (x ∷ xs) s k h e f other = (let is : x ≡ (s, k) = cc in rw (is, ne_eqb k h other) refl)
-
--- if there is no next entry, there is no next symbol with this hash
-pub next_none : (candidate : Option (ℕ × ℕ)) (behind : List (ℕ × ℕ)) (h : ℕ) → candidate ≡ head_of behind →
-    candidate ≡ None → None ≡ first_symbol_with h behind
-next_none candidate [] h e f = refl
-next_none candidate (x ∷ xs) h e f = cc
+-- the first symbol with a hash is told by the head
+pub next_with : (candidate : Option (ℕ × ℕ)) (behind : List (ℕ × ℕ)) (h : ℕ) → candidate ≡ head_of behind →
+    first_symbol_with h behind ≡ with_hash h candidate
+next_with candidate [] h e = rw e refl
+next_with candidate (x ∷ xs) h e = rw e refl
 
 -- an entry's symbol was placed, with the entry's hash
 pub entry_placed : (v : Placed) (b s h : ℕ) (before behind : List (ℕ × ℕ)) →
     chain v b ≡ before ++ (s, h) ∷ behind → (s < length v.hashes) × (get_or v.hashes s 0 ≡ h)
+unfolding chain
 entry_placed v b s h before behind split =
-    let each = rw split at (chain-entries v b) in
-    let entry = (Each-right (IsEntry v.count b v.hashes) before ((s, h) ∷ behind) each).0 in
-    (entry.0, entry.1 0)
+    let entry = (chain-entry v.count b v.hashes before (s, h) behind split).0 in (entry.0, entry.1 0)
 
 -- steps one after the other
 pub two_steps : (old a b : List Event) → a ≡ old ++ step ∷ [] → b ≡ a ++ step ∷ [] →

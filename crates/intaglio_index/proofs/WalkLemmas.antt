@@ -3,10 +3,9 @@ use Rattle.std.proofs.Common.{◌≡◌, ℕ, ◌<◌, ◌≤◌, List, [], ◌�
 use Rattle.std.specs.Option.{MatchOption}
 use Rattle.std.specs.List.{IsDistinct}
 use Rattle.std.proofs.lemmas.Bool.{eq-eqb}
-use Rattle.std.proofs.lemmas.List.{map-append}
 use Rattle.intaglio_index.specs.Found.{HasPassed, IsAt}
-use Rattle.intaglio_index.specs.Placed.{Placed, chain, head_of, symbols_of, BeginsAtOrAbove, IsPredecessor, IsEntry}
-use Rattle.intaglio_index.proofs.ChainLemmas.{chain-distinct, chain-entries, Each-right, Each-append}
+use Rattle.intaglio_index.specs.Placed.{Placed, chain, head_of, symbols_of, BeginsAtOrAbove, IsPredecessor}
+use Rattle.intaglio_index.proofs.ChainLemmas.{chain-distinct, chain-entry, symbol_at, Each-append}
 
 -- what is left of a path at a candidate
 abbrev pub rest_of : List (ℕ × ℕ) → Option (ℕ × ℕ) → List (ℕ × ℕ)
@@ -26,10 +25,7 @@ unfolding IsDistinct
 rest_of-split seen [] d = rest_of-none (seen ++ [])
 rest_of-split [] (e ∷ behind) d = rw (eq-eqb e.0 e.0 refl) refl
 rest_of-split (x ∷ seen) (e ∷ behind) d =
-    let apart = rw (map-append (λ (e : ℕ × ℕ). e.0) seen (e ∷ behind)) at d.0 in
-    let no : eqb x.0 e.0 ≡ false =
-    (Each-right (λ y. eqb x.0 y ≡ false) (symbols_of seen) (e.0 ∷ symbols_of behind) apart).0 in
-    rw no (rest_of-split seen (e ∷ behind) d.1)
+    rw (symbol_at (λ s. eqb x.0 s ≡ false) seen e behind d.0) (rest_of-split seen (e ∷ behind) d.1)
 
 -- if no symbol of a path occurs twice and the candidate is the head of a rest, that rest is left at it
 pub rest_of-at : (path seen rest : List (ℕ × ℕ)) (candidate : Option (ℕ × ℕ)) → path ≡ seen ++ rest →
@@ -84,24 +80,15 @@ module _ (v : Placed) (b : ℕ) where
   distinct = chain-distinct v.count b v.hashes
 
   -- behind an entry there is less of the path than from it on
-  pub nearer : (front : List (ℕ × ℕ)) (s k : ℕ) (behind : List (ℕ × ℕ)) (next : Option (ℕ × ℕ)) →
-      chain v b ≡ front ++ (s, k) ∷ behind →
-      ((before behind : List (ℕ × ℕ)) → chain v b ≡ before ++ (s, k) ∷ behind → next ≡ head_of behind) →
-      length (rest_of (chain v b) next) < length (rest_of (chain v b) (Some (s, k)))
-  nearer front s k behind next split after =
-      let now : rest_of (chain v b) (Some (s, k)) ≡ (s, k) ∷ behind =
-      rest_of-at (chain v b) front ((s, k) ∷ behind) (Some (s, k)) split distinct refl in
-      let later : chain v b ≡ (front ++ (s, k) ∷ []) ++ behind =
-      split ∙ sym (append_assoc front ((s, k) ∷ []) behind) in
-      let then : rest_of (chain v b) next ≡ behind =
-      rest_of-at (chain v b) (front ++ (s, k) ∷ []) behind next later distinct (after front behind split) in
-      rw (now, then) (omega arith)
-
   pub falls : (h s k : ℕ) (next : Option (ℕ × ℕ)) → HasPassed h (chain v b) (Some (s, k)) →
       ((before behind : List (ℕ × ℕ)) → chain v b ≡ before ++ (s, k) ∷ behind → next ≡ head_of behind) →
       length (rest_of (chain v b) next) < length (rest_of (chain v b) (Some (s, k)))
-  falls h s k next walk after = let rest = standing h (chain v b) (s, k) walk in
-      nearer walk.front s k rest.0 next rest.1 after
+  falls h s k next walk after =
+      let rest = standing h (chain v b) (s, k) walk in
+      let now = rest_of-at (chain v b) walk.front ((s, k) ∷ rest.0) (Some (s, k)) rest.1 distinct refl in
+      let then = rest_of-at (chain v b) (walk.front ++ (s, k) ∷ []) rest.0 next
+      (rest.1 ∙ sym (append_assoc walk.front ((s, k) ∷ []) rest.0)) distinct (after walk.front rest.0 rest.1) in
+      rw (now, then) (omega arith)
 
   -- the walk stops: nothing is left, or a hash that is not smaller
   begins : (h : ℕ) (rest : List (ℕ × ℕ)) (candidate : Option (ℕ × ℕ)) → candidate ≡ head_of rest →
@@ -128,7 +115,7 @@ module _ (v : Placed) (b : ℕ) where
       }
 
   pub within : (h s k : ℕ) → HasPassed h (chain v b) (Some (s, k)) → s < length v.hashes
+  unfolding chain
   within h s k walk =
       let rest = standing h (chain v b) (s, k) walk in
-      (Each-right (IsEntry v.count b v.hashes) walk.front ((s, k) ∷ rest.0)
-      (rw rest.1 at (chain-entries v b))).0.0
+      (chain-entry v.count b v.hashes walk.front (s, k) rest.0 rest.1).0.0

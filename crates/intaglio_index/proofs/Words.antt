@@ -61,24 +61,24 @@ module _ (size : ℕ) (some : 0 < size) where
 
   -- and the block of the less is the lower
   pub below_block : (a b : ℕ) → a < b → a / size ≢ b / size → a / size < b / size
-  below_block a b l differ = elim (cases_lt (a / size) (b / size)) [
-    | inl less ↦ less
-    | inr at_least ↦
-        elim (cases_lt (b / size) (a / size)) [
-          | inl above ↦ absurd (let back : b < a = block_below b a above in omega arith)
-          | inr at_most ↦ absurd (differ (let same : a / size ≡ b / size = omega arith in same))
-        ]
+  below_block a b l differ = elim (cases_lt (b / size) (a / size)) [
+    | inl above ↦ absurd (let back : b < a = block_below b a above in omega arith)
+    | inr at_most ↦ omega (arith, differ)
   ]
 
   -- the parts of a word
   pub word_is : (h s : ℕ) → s < size → IsWord size (s, h) (h / size * size + s)
   word_is h s l = (div-mul-add (h / size) size s l, mod-mul-add (h / size) size s l)
 
+  -- a number is told by its high bits and its low ones
+  pub same_number : (a b : ℕ) → a % size ≡ b % size → a / size ≡ b / size → a ≡ b
+  same_number a b low high =
+      sym (div-add-mod' a size) ∙ ap (λ n. n * size + a % size) high ∙ ap (λ n. b / size * size + n) low
+      ∙ div-add-mod' b size
+
   -- a word is told by its entry
   pub word_same : (e : ℕ × ℕ) (a b : ℕ) → IsWord size e a → IsWord size e b → a ≡ b
-  word_same e a b p q =
-      sym (div-add-mod' a size) ∙ ap (λ n. n * size + a % size) (p.0 ∙ sym q.0)
-      ∙ ap (λ n. b / size * size + n) (p.1 ∙ sym q.1) ∙ div-add-mod' b size
+  word_same e a b p q = same_number a b (p.1 ∙ sym q.1) (p.0 ∙ sym q.0)
 
   -- where the low bits are the same, the high bits tell the order
   pub high_below : (a b word : ℕ) → a % size ≡ b % size → word / size ≡ a / size →
@@ -93,12 +93,6 @@ module _ (size : ℕ) (some : 0 < size) where
   high_above a b word same l =
       let blocks : word / size < b / size = div_below word size (b / size) some l in
       block_below a b (omega arith)
-
-  -- and where the high bits are the same too, so are the numbers
-  pub same_number : (a b : ℕ) → a % size ≡ b % size → a / size ≡ b / size → a ≡ b
-  same_number a b low high =
-      sym (div-add-mod' a size) ∙ ap (λ n. n * size + a % size) high ∙ ap (λ n. b / size * size + n) low
-      ∙ div-add-mod' b size
 
 -- a word of a hash of 64 bits has 64 bits
 pub word_fits : (h s size : ℕ) → IsPowerOfTwo size → size ≤ 2 ^ 64 → h < 2 ^ 64 → s < size →

@@ -1,6 +1,7 @@
-use Rattle.std.proofs.Common.{◌≡◌, ℕ, List, ◌∷◌, ◌++◌, sym, ◌∙◌}
+use Rattle.std.proofs.Common.{◌≡◌, ℕ, List, ◌∷◌, ◌++◌, sym, ◌∙◌, refl}
+use Rattle.std.proofs.lemmas.Bool.{eq-eqb, ne_eqb}
 use Rattle.intaglio_index.specs.Placed.{chain}
-use Rattle.intaglio_index.proofs.SearchLemmas.{next_with, next_without, next_none, entry_placed, hash_read}
+use Rattle.intaglio_index.proofs.SearchLemmas.{next_with, entry_placed, hash_read}
 use Rattle.intaglio_index.proofs.index.Index.find_next.Goals as goal
 use Rattle.intaglio_index.proofs.index.Index.find_next.Goals.{After-next_entry}
 
@@ -13,17 +14,16 @@ own_hash c b hash before behind split =
 
 pub returns-in-None-clause-next : goal.returns-in-None-clause-next
 returns-in-None-clause-next c = λ b hash before behind split.
-    next_none _ behind hash (c.next_entry.ensures.next b hash before behind split) c.in-None.is
+    rw (next_with _ behind hash (c.next_entry.ensures.next b hash before behind split), c.in-None.is) refl
 
 pub returns-then-found-hash-clause-next : goal.returns-then-found-hash-clause-next
 returns-then-found-hash-clause-next c = λ b hash before behind split.
-    next_with _ behind _ _ hash (c.next_entry.ensures.next b hash before behind split) c.in-Some.is
-    (c.if-found-hash.true ∙ own_hash (goal.at.returns-then-found-hash-clause-next c).After-next_entry b hash
-    before behind split)
+    let own = own_hash (goal.at.returns-then-found-hash-clause-next c).After-next_entry b hash before behind split in
+    rw (next_with _ behind hash (c.next_entry.ensures.next b hash before behind split), c.in-Some.is)
+    (rw (eq-eqb c.in-Some.found.1 hash (c.if-found-hash.true ∙ own)) refl)
 
 pub returns-else-found-hash-clause-next : goal.returns-else-found-hash-clause-next
 returns-else-found-hash-clause-next c = λ b hash before behind split.
-    next_without _ behind _ _ hash (c.next_entry.ensures.next b hash before behind split) c.in-Some.is
-    (λ q. c.if-found-hash.false (q
-    ∙ sym (own_hash (goal.at.returns-else-found-hash-clause-next c).After-next_entry b hash before
-    behind split)))
+    let own = own_hash (goal.at.returns-else-found-hash-clause-next c).After-next_entry b hash before behind split in
+    rw (next_with _ behind hash (c.next_entry.ensures.next b hash before behind split), c.in-Some.is)
+    (rw (ne_eqb c.in-Some.found.1 hash (λ q. c.if-found-hash.false (q ∙ sym own))) refl)
