@@ -1,10 +1,9 @@
 -- A walk along a bucket.
-use Rattle.std.proofs.Common.{◌≡◌, ℕ, ◌<◌, ◌≤◌, List, [], ◌∷◌, ◌++◌, length, cond, false, refl, sym, ap, ◌∙◌, arith, eqb, Option, Some, None, append_assoc}
-use Rattle.std.specs.Option.{MatchOption}
+use Rattle.std.proofs.Common.{◌≡◌, ℕ, ◌<◌, List, [], ◌∷◌, ◌++◌, length, cond, false, refl, sym, ap, ◌∙◌, arith, eqb, Option, Some, None, append_assoc}
 use Rattle.std.specs.List.{IsDistinct}
 use Rattle.std.proofs.lemmas.Bool.{eq-eqb}
 use Rattle.intaglio_index.specs.Found.{HasPassed, IsAt}
-use Rattle.intaglio_index.specs.Placed.{Placed, chain, head_of, symbols_of, BeginsAtOrAbove, IsPredecessor}
+use Rattle.intaglio_index.specs.Placed.{Placed, chain, head_of, symbols_of}
 use Rattle.intaglio_index.proofs.ChainLemmas.{chain-distinct, chain-entry, symbol_at, Each-append}
 
 -- what is left of a path at a candidate
@@ -89,30 +88,6 @@ module _ (v : Placed) (b : ℕ) where
       let then = rest_of-at (chain v b) (walk.front ++ (s, k) ∷ []) rest.0 next
       (rest.1 ∙ sym (append_assoc walk.front ((s, k) ∷ []) rest.0)) distinct (after walk.front rest.0 rest.1) in
       rw (now, then) (omega arith)
-
-  -- the walk stops: nothing is left, or a hash that is not smaller
-  begins : (h : ℕ) (rest : List (ℕ × ℕ)) (candidate : Option (ℕ × ℕ)) → candidate ≡ head_of rest →
-      MatchOption candidate (Unit {0}) (λ e. h ≤ e.1) → BeginsAtOrAbove h rest
-  begins h [] candidate e m = tt
-  begins h (x ∷ xs) candidate e m = rw e at m
-
-  pub stops : (h : ℕ) (last : Option ℕ) (candidate : Option (ℕ × ℕ)) → IsAt h (chain v b) last candidate →
-      MatchOption candidate (Unit {0}) (λ e. h ≤ e.1) →
-      MatchOption last (BeginsAtOrAbove h (chain v b)) (λ p. IsPredecessor h (chain v b) p)
-  stops h None candidate at m =
-      let whole : chain v b ≡ at.walk.rest = at.walk.split ∙ ap (λ f. f ++ at.walk.rest) at.last_is in
-      rw whole (begins h at.walk.rest candidate at.walk.next m)
-  stops h (Some p) candidate at m =
-      let is : at.walk.front ≡ at.last_is.0 ++ (p, at.last_is.1) ∷ [] = at.last_is.2 in
-      record {
-        front = at.last_is.0;
-        hash = at.last_is.1;
-        behind = at.walk.rest;
-        split = at.walk.split ∙ ap (λ f. f ++ at.walk.rest) is
-            ∙ append_assoc at.last_is.0 ((p, at.last_is.1) ∷ []) at.walk.rest;
-        smaller = rw is at at.walk.smaller;
-        others = begins h at.walk.rest candidate at.walk.next m;
-      }
 
   pub within : (h s k : ℕ) → HasPassed h (chain v b) (Some (s, k)) → s < length v.hashes
   unfolding chain
