@@ -14,9 +14,9 @@ use Rattle.intaglio_index.specs.Links.{IsThread, IsLinked, next_of}
 use Rattle.intaglio_index.proofs.FilterLemmas.{filtered-push, filtered-take, filtered-vacated, marked-some}
 use Rattle.intaglio_index.proofs.LinkLemmas.{others_stay, path_within}
 use Rattle.std.proofs.lemmas.Grind.{common_steps}
-use Rattle.intaglio_index.specs.Placed.{Placed, chain, IsEntry, chain_from, first_symbol_of, symbols_of, insert_sorted, BeginsAtOrAbove, IsPredecessor}
+use Rattle.intaglio_index.specs.Placed.{Placed, chain, IsEntry, chain_from, first_symbol_of, symbols_of, insert_sorted, IsPredecessor}
 use Rattle.intaglio_index.specs.Heads.{IsWord, IsHead, IsHeaded}
-use Rattle.intaglio_index.proofs.ChainLemmas.{put-some, put-behind, insert_sorted-between, chain-grows, chain-stays, symbol_at, chain-entries}
+use Rattle.intaglio_index.proofs.ChainLemmas.{put-some, put-behind, chain-grows, chain-stays, symbol_at, chain-entries}
 
 -- a head whose words are both 0
 abbrev pub no_head : Head
@@ -46,13 +46,6 @@ module _ (size s h word : ℕ) (is_word : IsWord size (s, h) word) where
   pub head_alone : (path : List (ℕ × ℕ)) → path ≡ [] →
       IsHead size (record { first = word; second = word }) (insert_sorted s h path)
   head_alone path none = rw none (is_word, is_word)
-
-  pub head_led : (head : Head) (path : List (ℕ × ℕ)) → IsHead size head path → (path ≡ [] → ⊥) →
-      BeginsAtOrAbove h path →
-      IsHead size (record { first = word; second = head.first }) (insert_sorted s h path)
-  head_led head [] is others begins = absurd (others refl)
-  head_led head (e ∷ es) is others begins =
-      rw (insert_sorted-between s h [] (e ∷ es) tt begins) (is_word, is.0)
 
   -- behind the first one
   second_at : (head : Head) (front : List (ℕ × ℕ)) (last hash : ℕ) (behind : List (ℕ × ℕ)) →

@@ -20,9 +20,6 @@ returns-then-hash-head-clause-none c =
     λ e. head_absent (read (goal.at.returns-then-hash-head-clause-none c).After-agrees)
     c.agrees.result c.if-not-agrees.true c.agrees.ensures.1 c.then-hash-head.either
 
-pub returns-then-hash-head-clause-passed : goal.returns-then-hash-head-clause-passed
-returns-then-hash-head-clause-passed c = λ e. record { more = 0; few = omega arith; events = c.step.ensures }
-
 pub symbol-requires-clause-number : goal.symbol-requires-clause-number
 symbol-requires-clause-number c =
     let all = (goal.at.symbol-requires-clause-number c).After-agrees in

@@ -31,10 +31,6 @@ symbol-requires-clause-number c =
 pub find_behind-requires : goal.find_behind-requires
 find_behind-requires c = grind (arith, common_steps, head_behind, read)
 
-pub returns-then-not-agrees-clause-passed : goal.returns-then-not-agrees-clause-passed
-returns-then-not-agrees-clause-passed c =
-    λ e. c.find_behind.ensures.passed e c.args.work.now.events c.step.ensures
-
 pub symbol-symbol-requires-clause-number : goal.symbol-symbol-requires-clause-number
 symbol-symbol-requires-clause-number c =
     let all = (goal.at.symbol-symbol-requires-clause-number c).After-agrees in

@@ -36,10 +36,8 @@ old_head : (c : After-marked) →
 old_head c =
     head_read c.self.invariant _ _ (within c) (rw (at_bucket c) at c.index-head.ensures)
 
-new_word : (c : After-marked) → IsWord (c.self.inside.modulus.mask + 1) (
-  length c.self.inside.hashes.items,
-  c.args.hash,
-) c.word-word.result
+new_word : (c : After-marked) →
+    IsWord (c.self.inside.modulus.mask + 1) (length c.self.inside.hashes.items, c.args.hash) c.word-word.result
 new_word c = (c.word-word.ensures.word.0, c.word-word.ensures.word.1 ∙ number_is c)
 
 below : (c : After-marked) (last : ℕ) →
@@ -56,17 +54,13 @@ invariant_of-self c =
     let all = (goal.at.invariant_of-self c).After-marked in
     let begins = rw (← c.self.view_is) at c.in-None.ensures in
     let alone = alone_is _ _ c.is_none.result (leads all) c.is_none.ensures in
-    rw (
-      c.push_reserved.ensures.items,
-      c.push_reserved-in-None.ensures.items,
-      c.unwrap_or.ensures,
-      at_bucket all,
-    )
+    rw (c.push_reserved.ensures.items, c.push_reserved-in-None.ensures.items)
+    (rw (c.unwrap_or.ensures, at_bucket all)
     (holds_pushed c.self.invariant c.args.hash _ _ _ _ (within all) (rw (at_bucket all) at c.index.ensures)
     c.marked.ensures.set c.marked.ensures.kept
     (c.with_first.ensures _ _ _ _ (old_head all) alone begins (new_word all))
     (place_first c.self.invariant.linked c.args.hash c.args.symbol (number_is all) c.word-word.ensures.number
-    (free all) _ (leads all) begins))
+    (free all) _ (leads all) begins)))
 
 pub next-requires : goal.next-requires
 next-requires c = grind (arith, common_steps, below)
@@ -83,15 +77,10 @@ invariant_of-self-in-Some c =
     let apart =
     chain-distinct (length c.self.inside.heads.items) (c.args.hash % length c.self.inside.heads.items)
     c.self.inside.hashes.items in
-    rw (
-      c.push_reserved.ensures.items,
-      c.push_reserved-in-Some.ensures.items,
-      c.unwrap_or-link.ensures,
-      c.id.ensures,
-      at_bucket all,
-    )
+    rw (c.push_reserved.ensures.items, c.push_reserved-in-Some.ensures.items)
+    (rw (c.unwrap_or-link.ensures, c.id.ensures, at_bucket all)
     (holds_pushed c.self.invariant c.args.hash _ _ _ _ (within all) (rw (at_bucket all) at c.index.ensures)
     c.marked.ensures.set c.marked.ensures.kept
     (c.with_after.ensures _ _ _ _ (old_head all) (leads all) apart pred (new_word all))
     (place_behind c.self.invariant.linked c.args.hash c.args.symbol (number_is all) c.word-word.ensures.number
-    (free all) _ _ (below all c.in-Some.last c.in-Some.ensures) next pred))
+    (free all) _ _ (below all c.in-Some.last c.in-Some.ensures) next pred)))

@@ -33,12 +33,9 @@ read-requires-clause-linked c =
     let all = (goal.at.read-requires-clause-linked c).After-predecessor-before in
     let cut = cut_first c.self.invariant.linked _ _ (last_is all) c.index-hash.ensures _ (next_is all)
     (rw (← c.self.view_is) at c.in-None.ensures) in
-    rw (
-      c.deref-in-Some-behind.ensures.value,
-      c.deref-in-Some-behind-2.ensures.value,
-      c.truncate.ensures.items,
-      c.truncate-2.ensures.items,
-    ) (_, thread_of cut.0 _ _ (sym c.in-Some-behind.is ∙ cut.1))
+    rw (c.deref-in-Some-behind.ensures.value, c.deref-in-Some-behind-2.ensures.value)
+    (rw (c.truncate.ensures.items, c.truncate-2.ensures.items)
+    (_, thread_of cut.0 _ _ (sym c.in-Some-behind.is ∙ cut.1)))
 
 pub invariant_of-self-in-Some-behind : goal.invariant_of-self-in-Some-behind
 unfolding chain
@@ -47,15 +44,11 @@ invariant_of-self-in-Some-behind c =
     let cut = cut_first c.self.invariant.linked _ _ (last_is all) c.index-hash.ensures _ (next_is all)
     (rw (← c.self.view_is) at c.in-None.ensures) in
     let leads = sym c.in-Some-behind.is ∙ cut.1 in
-    let head = rw (
-      c.deref-in-Some-behind.ensures.value,
-      c.deref-in-Some-behind-2.ensures.value,
-      c.truncate.ensures.items,
-      c.truncate-2.ensures.items,
-    ) at c.read.ensures in
+    let head = rw (c.deref-in-Some-behind.ensures.value, c.deref-in-Some-behind-2.ensures.value) at c.read.ensures in
+    let same = rw (c.truncate.ensures.items, c.truncate-2.ensures.items) at head in
     rw (c.truncate.ensures.items, c.truncate-2.ensures.items, at_bucket all)
     (holds_read c.self.invariant _ _ (last_is all) c.index-hash.ensures _ _ _ cut.0 leads
-    (head _ (thread_of cut.0 _ _ leads)))
+    (same _ (thread_of cut.0 _ _ leads)))
 
 -- the bucket has a symbol in front of the last one
 occupied : (c : After-index) → IsOccupied c.args.self.now (c.index-hash.result.now % c.args.self.now.count)
@@ -93,14 +86,9 @@ read-requires-in-Some-clause-linked c =
     let cut = cut_behind c.self.invariant.linked _ _ (last_is all) c.index-hash.ensures _ (next_is all) _
     (rw (← c.self.view_is) at c.in-Some.ensures) in
     let first = led (goal.at.read-requires-in-Some-clause-linked c).After-index _ c.symbol-first.ensures in
-    rw (
-      c.deref-in-Some.ensures.value,
-      c.deref-in-Some-2.ensures.value,
-      c.truncate.ensures.items,
-      c.truncate-2.ensures.items,
-      c.unwrap_or.ensures,
-      c.id.ensures,
-    ) (_, thread_of cut.0 _ _ (first ∙ sym cut.1))
+    rw (c.deref-in-Some.ensures.value, c.deref-in-Some-2.ensures.value, c.truncate.ensures.items)
+    (rw (c.truncate-2.ensures.items, c.unwrap_or.ensures, c.id.ensures)
+    (_, thread_of cut.0 _ _ (first ∙ sym cut.1)))
 
 pub invariant_of-self-in-Some : goal.invariant_of-self-in-Some
 unfolding chain
@@ -109,20 +97,9 @@ invariant_of-self-in-Some c =
     let cut = cut_behind c.self.invariant.linked _ _ (last_is all) c.index-hash.ensures _ (next_is all) _
     (rw (← c.self.view_is) at c.in-Some.ensures) in
     let leads = led (goal.at.invariant_of-self-in-Some c).After-index _ c.symbol-first.ensures ∙ sym cut.1 in
-    let head = rw (
-      c.deref-in-Some.ensures.value,
-      c.deref-in-Some-2.ensures.value,
-      c.truncate.ensures.items,
-      c.truncate-2.ensures.items,
-      c.unwrap_or.ensures,
-      c.id.ensures,
-    ) at c.read-in-Some.ensures in
-    rw (
-      c.truncate.ensures.items,
-      c.truncate-2.ensures.items,
-      c.unwrap_or.ensures,
-      c.id.ensures,
-      at_bucket all,
-    )
+    let head = rw (c.deref-in-Some.ensures.value, c.deref-in-Some-2.ensures.value) at c.read-in-Some.ensures in
+    let same = rw (c.truncate.ensures.items, c.truncate-2.ensures.items, c.unwrap_or.ensures, c.id.ensures) at head in
+    rw (c.truncate.ensures.items, c.truncate-2.ensures.items)
+    (rw (c.unwrap_or.ensures, c.id.ensures, at_bucket all)
     (holds_read c.self.invariant _ _ (last_is all) c.index-hash.ensures _ _ _ cut.0 leads
-    (head _ (thread_of cut.0 _ _ leads)))
+    (same _ (thread_of cut.0 _ _ leads))))
