@@ -1,7 +1,6 @@
 use Rattle.std.proofs.lemmas.Grind.{common_steps}
-use Rattle.std.proofs.Common.{◌≡◌, ℕ, ◌<◌, ◌+◌, ◌%◌, [], length, arith, ◌∙◌}
-use Rattle.intaglio_index.specs.Placed.{chain, chain_from, first_symbol_of, IsPredecessor}
-use Rattle.intaglio_index.specs.Heads.{IsWord, IsHead}
+use Rattle.std.proofs.Common.{◌≡◌, ℕ, ◌<◌, ◌%◌, length, arith, ◌∙◌}
+use Rattle.intaglio_index.specs.Placed.{chain, IsPredecessor}
 use Rattle.intaglio_index.proofs.ChainLemmas.{chain-distinct}
 use Rattle.intaglio_index.proofs.HeadLemmas.{head_read, holds_pushed, alone_is}
 use Rattle.intaglio_index.proofs.LinkLemmas.{place_first, place_behind, predecessor_within}
@@ -21,46 +20,28 @@ within : (c : After-marked) →
     c.args.hash % length c.self.inside.heads.items < length c.self.inside.heads.items
 within c = omega (arith, free c)
 
-leads : (c : After-marked) →
-    c.first_symbol-first_symbol.result
-    ≡ first_symbol_of
-    (chain_from (length c.self.inside.heads.items) (c.args.hash % length c.self.inside.heads.items) 0 []
-    c.self.inside.hashes.items)
-unfolding chain
-leads c = rw (at_bucket c, ← c.self.view_is) at c.first_symbol-first_symbol.ensures
-
-old_head : (c : After-marked) →
-    IsHead (c.self.inside.modulus.mask + 1) c.index-head.result.now
-    (chain_from (length c.self.inside.heads.items) (c.args.hash % length c.self.inside.heads.items) 0 []
-    c.self.inside.hashes.items)
-old_head c =
-    head_read c.self.invariant _ _ (within c) (rw (at_bucket c) at c.index-head.ensures)
-
-new_word : (c : After-marked) →
-    IsWord (c.self.inside.modulus.mask + 1) (length c.self.inside.hashes.items, c.args.hash) c.word-word.result
-new_word c = (c.word-word.ensures.word.0, c.word-word.ensures.word.1 ∙ number_is c)
-
 below : (c : After-marked) (last : ℕ) →
     IsPredecessor c.args.hash (chain c.args.self.now (c.args.hash % c.args.self.now.count)) last →
     last < length c.self.inside.hashes.items
 unfolding chain
 below c last pred =
-    predecessor_within c.self.invariant.linked
-    c.args.hash (c.args.hash % length c.self.inside.heads.items) last (rw (← c.self.view_is) at pred)
+    predecessor_within c.self.invariant.linked c.args.hash _ last (rw (← c.self.view_is) at pred)
 
 pub invariant_of-self : goal.invariant_of-self
 unfolding chain
 invariant_of-self c =
     let all = (goal.at.invariant_of-self c).After-marked in
     let begins = rw (← c.self.view_is) at c.in-None.ensures in
-    let alone = alone_is _ _ c.is_none.result (leads all) c.is_none.ensures in
+    let leads = rw (at_bucket all, ← c.self.view_is) at c.first_symbol-first_symbol.ensures in
+    let old = head_read c.self.invariant _ _ (within all) (rw (at_bucket all) at c.index-head.ensures) in
+    let alone = alone_is _ _ c.is_none.result leads c.is_none.ensures in
     rw (c.push_reserved.ensures.items, c.push_reserved-in-None.ensures.items)
     (rw (c.unwrap_or.ensures, at_bucket all)
     (holds_pushed c.self.invariant c.args.hash _ _ _ _ (within all) (rw (at_bucket all) at c.index.ensures)
     c.marked.ensures.set c.marked.ensures.kept
-    (c.with_first.ensures _ _ _ _ (old_head all) alone begins (new_word all))
+    (c.with_first.ensures _ _ _ _ old alone begins (c.word-word.ensures.word.0, c.word-word.ensures.word.1 ∙ number_is all))
     (place_first c.self.invariant.linked c.args.hash c.args.symbol (number_is all) c.word-word.ensures.number
-    (free all) _ (leads all) begins)))
+    (free all) _ leads begins)))
 
 pub next-requires : goal.next-requires
 next-requires c = grind (arith, common_steps, below)
@@ -74,6 +55,8 @@ invariant_of-self-in-Some c =
     let all = (goal.at.invariant_of-self-in-Some c).After-marked in
     let pred = rw (← c.self.view_is) at c.in-Some.ensures in
     let next = rw c.deref.ensures.value at c.next.ensures in
+    let leads = rw (at_bucket all, ← c.self.view_is) at c.first_symbol-first_symbol.ensures in
+    let old = head_read c.self.invariant _ _ (within all) (rw (at_bucket all) at c.index-head.ensures) in
     let apart =
     chain-distinct (length c.self.inside.heads.items) (c.args.hash % length c.self.inside.heads.items)
     c.self.inside.hashes.items in
@@ -81,6 +64,6 @@ invariant_of-self-in-Some c =
     (rw (c.unwrap_or-link.ensures, c.id.ensures, at_bucket all)
     (holds_pushed c.self.invariant c.args.hash _ _ _ _ (within all) (rw (at_bucket all) at c.index.ensures)
     c.marked.ensures.set c.marked.ensures.kept
-    (c.with_after.ensures _ _ _ _ (old_head all) (leads all) apart pred (new_word all))
+    (c.with_after.ensures _ _ _ _ old leads apart pred (c.word-word.ensures.word.0, c.word-word.ensures.word.1 ∙ number_is all))
     (place_behind c.self.invariant.linked c.args.hash c.args.symbol (number_is all) c.word-word.ensures.number
     (free all) _ _ (below all c.in-Some.last c.in-Some.ensures) next pred)))
