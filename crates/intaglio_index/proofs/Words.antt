@@ -5,8 +5,8 @@ use Rattle.std.specs.Int.{IsPowerOfTwo}
 use Rattle.std.specs.Int.RustNames.{bit_xor}
 use Rattle.std.specs.Int.Bits.{xor_self}
 use Rattle.std.proofs.lemmas.Bool.{cases_lt}
-use Rattle.std.proofs.lemmas.Nat.{pow_pos, pow_below, xor_shr, xor_mod, div-add-mod', div-mul-add, mod-mul-add, div_below, mod_below, mul-add-lt, le-div, pow-add}
-use Rattle.std.proofs.Math.Nat.{mul-le-mul_right}
+use Rattle.std.proofs.lemmas.Nat.{pow_pos, pow_below, xor_shr, xor_mod, div-add-mod', div-mul-add, mod-mul-add, div_below, mul-add-lt, le-div, pow-add}
+use Rattle.std.proofs.Math.Nat.{mul-le-mul_right, div-eq_of_lt, div-lt_iff_lt-mul}
 use Rattle.intaglio_content.proofs.SameLemmas.{xor-none}
 use Rattle.intaglio_index.specs.Heads.{IsWord}
 
@@ -15,18 +15,11 @@ agrees_at : (k a b : ℕ) → bit_xor a b < 2 ^ k ↔ (a / 2 ^ k ≡ b / 2 ^ k)
 agrees_at k a b =
     let some : 0 < 2 ^ k = pow_pos k in
     let high : bit_xor a b / 2 ^ k ≡ bit_xor (a / 2 ^ k) (b / 2 ^ k) = xor_shr a b k in
-    let whole : bit_xor a b / 2 ^ k * 2 ^ k + bit_xor a b % 2 ^ k ≡ bit_xor a b =
-    div-add-mod' (bit_xor a b) (2 ^ k) in (
-      λ below.
-          (let one : bit_xor a b < 1 * 2 ^ k = omega arith in
-          let least : bit_xor a b / 2 ^ k < 1 = div_below (bit_xor a b) (2 ^ k) 1 some one in
-          let none : bit_xor a b / 2 ^ k ≡ 0 = omega arith in
-          xor-none (a / 2 ^ k) (b / 2 ^ k) (sym high ∙ none)),
-      λ same.
-          (let none : bit_xor a b / 2 ^ k ≡ 0 = high ∙ ap (λ n. bit_xor n (b / 2 ^ k)) same
-          ∙ xor_self (b / 2 ^ k) in
-          let no_blocks : bit_xor a b / 2 ^ k * 2 ^ k ≡ 0 * 2 ^ k = ap (λ n. n * 2 ^ k) none in
-          omega (arith, whole, no_blocks, mod_below (bit_xor a b) (2 ^ k) some)),
+    let none : a / 2 ^ k ≡ b / 2 ^ k → bit_xor a b / 2 ^ k ≡ 0 =
+    λ same. high ∙ ap (λ n. bit_xor n (b / 2 ^ k)) same ∙ xor_self (b / 2 ^ k) in (
+      λ below. xor-none (a / 2 ^ k) (b / 2 ^ k) (sym high ∙ div-eq_of_lt below),
+      λ same. (let less = (div-lt_iff_lt-mul {x = bit_xor a b} {y = 1} some).0 (omega (arith, none same)) in
+          omega (arith, less)),
     )
 
 -- the xor of two numbers is at most a mask of low bits exactly if their bits above the mask are the same
@@ -99,13 +92,10 @@ pub word_fits : (h s size : ℕ) → IsPowerOfTwo size → size ≤ 2 ^ 64 → h
     h / size * size + s < 2 ^ 64
 word_fits h s size power within fits below =
     let k : ℕ = power.0 in
-    let low : k ≤ 64 = elim (cases_lt 64 k) [
-      | inl above ↦ absurd (let more : 2 ^ 64 < 2 ^ k = pow_below 64 k above in omega (arith, power.1))
-      | inr at_most ↦ at_most
-    ] in
-    let parts : 2 ^ 64 ≡ 2 ^ (64 - k) * 2 ^ k =
-    ap (λ n. 2 ^ n) (let sum : 64 ≡ (64 - k) + k = omega arith in sum) ∙ pow-add 2 (64 - k) k in
-    let whole : 2 ^ 64 ≡ 2 ^ (64 - k) * size = parts ∙ ap (λ n. 2 ^ (64 - k) * n) (sym power.1) in
+    let low : k ≤ 64 = grind (arith, pow_below 64 k, power.1) in
+    let sum : 64 ≡ (64 - k) + k = omega arith in
+    let whole : 2 ^ 64 ≡ 2 ^ (64 - k) * size =
+    ap (λ n. 2 ^ n) sum ∙ pow-add 2 (64 - k) k ∙ ap (λ n. 2 ^ (64 - k) * n) (sym power.1) in
     let some : 0 < size = omega arith in
     let block : h / size < 2 ^ (64 - k) = div_below h size (2 ^ (64 - k)) some (omega (arith, whole)) in
     omega (arith, whole, mul-add-lt (h / size) size s (2 ^ (64 - k)) block below)

@@ -23,7 +23,7 @@ returns-then-hash-head-clause-none c =
 pub symbol-requires-clause-number : goal.symbol-requires-clause-number
 symbol-requires-clause-number c =
     let all = (goal.at.symbol-requires-clause-number c).After-agrees in
-    omega (arith, second_within _ _ _ _ (read all).occupied, numbered c.self.view_is c.self.invariant, c.self.invariant.linked.numbered)
+    omega (arith, second_within _ _ _ _ (read all).occupied, numbered c.self.view_is c.self.invariant)
 
 pub find_behind-requires : goal.find_behind-requires
 find_behind-requires c = grind (arith, common_steps, head_behind, read)
@@ -31,7 +31,7 @@ find_behind-requires c = grind (arith, common_steps, head_behind, read)
 pub symbol_beside-symbol-requires-clause-number : goal.symbol_beside-symbol-requires-clause-number
 symbol_beside-symbol-requires-clause-number c =
     let all = (goal.at.symbol_beside-symbol-requires-clause-number c).After-agrees in
-    omega (arith, word_within (read all), numbered c.self.view_is c.self.invariant, c.self.invariant.linked.numbered)
+    omega (arith, word_within (read all), numbered c.self.view_is c.self.invariant)
 
 pub returns-then-word-head-clause-found : goal.returns-then-word-head-clause-found
 returns-then-word-head-clause-found c =

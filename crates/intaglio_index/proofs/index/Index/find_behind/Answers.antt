@@ -1,7 +1,7 @@
-use Rattle.std.proofs.Common.{◌≡◌, ℕ, List, ◌∷◌, [], ◌++◌, ◌%◌}
+use Rattle.std.proofs.Common.{◌≡◌, List, ◌∷◌, [], ◌++◌, ◌%◌}
 use Rattle.intaglio_content.specs.Work.{Event, step}
 use Rattle.intaglio_index.specs.Placed.{chain}
-use Rattle.intaglio_index.specs.Found.{IsReached, IsFound}
+use Rattle.intaglio_index.specs.Found.{IsReached}
 use Rattle.intaglio_index.proofs.SearchLemmas.{begins_third, second_placed, three_steps, each_some}
 use Rattle.intaglio_index.proofs.index.Index.find_behind.Goals as goal
 use Rattle.intaglio_index.proofs.index.Index.find_behind.Goals.{After-next_entry}
@@ -24,12 +24,7 @@ find_along-requires c = (
 
 pub returns-clause-found : goal.returns-clause-found
 returns-clause-found c =
-    let path : List (ℕ × ℕ) = chain c.args.self.now (c.args.hash % c.args.self.now.count) in
-    each_some (λ s. (start : List Event) →
-    IsReached c.args.hash path start c.step-2.new.self.events c.next_entry.result →
-    IsFound c.args.hash path start c.find_along.new.work.events s)
-    (λ s. (start : List Event) → c.args.work.now.events ≡ start ++ step ∷ [] →
-    IsFound c.args.hash path start c.find_along.new.work.events s) c.find_along.result
+    each_some _ _ c.find_along.result
     (λ s f start begun. f start (reached (goal.at.returns-clause-found c).After-next_entry start begun))
     c.find_along.ensures.found
 

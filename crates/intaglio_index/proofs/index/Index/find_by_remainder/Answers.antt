@@ -1,9 +1,8 @@
 use Rattle.std.proofs.lemmas.Grind.{common_steps}
-use Rattle.std.proofs.Common.{◌≡◌, ℕ, List, ◌+◌, ◌%◌, length, ap, ◌∙◌, arith, inl}
+use Rattle.std.proofs.Common.{◌≡◌, ◌+◌, ◌%◌, length, ap, ◌∙◌, arith, inl}
 use Rattle.std.proofs.lemmas.Bool.{eqb-false}
-use Rattle.intaglio_content.specs.Work.{Event}
 use Rattle.intaglio_index.specs.Placed.{Placed, bucket_of}
-use Rattle.intaglio_index.specs.Found.{IsFound, IsReached}
+use Rattle.intaglio_index.specs.Found.{IsReached}
 use Rattle.intaglio_index.proofs.FilterLemmas.{marked-some}
 use Rattle.intaglio_index.proofs.HeadLemmas.{count_is, numbered, is_occupied, second_within}
 use Rattle.intaglio_index.proofs.SearchLemmas.{IsRead, begins, head_absent, head_behind, word_first, word_second, word_within, two_steps, each_some, hash_read}
@@ -26,7 +25,7 @@ returns-then-hash-head-clause-passed c = λ e. record { more = 0; few = omega ar
 pub symbol-requires-clause-number : goal.symbol-requires-clause-number
 symbol-requires-clause-number c =
     let all = (goal.at.symbol-requires-clause-number c).After-agrees in
-    omega (arith, second_within _ _ _ _ (read all).occupied, numbered c.self.view_is c.self.invariant, c.self.invariant.linked.numbered)
+    omega (arith, second_within _ _ _ _ (read all).occupied, numbered c.self.view_is c.self.invariant)
 
 pub find_behind-requires : goal.find_behind-requires
 find_behind-requires c = grind (arith, common_steps, head_behind, read)
@@ -34,7 +33,7 @@ find_behind-requires c = grind (arith, common_steps, head_behind, read)
 pub symbol-symbol-requires-clause-number : goal.symbol-symbol-requires-clause-number
 symbol-symbol-requires-clause-number c =
     let all = (goal.at.symbol-symbol-requires-clause-number c).After-agrees in
-    omega (arith, word_within (read all), numbered c.self.view_is c.self.invariant, c.self.invariant.linked.numbered)
+    omega (arith, word_within (read all), numbered c.self.view_is c.self.invariant)
 
 pub index-requires-2 : goal.index-requires-2
 index-requires-2 c =
@@ -55,11 +54,7 @@ find_along-requires c = (_, reached (goal.at.find_along-requires c).After-first_
 
 pub returns-then-index-hash-clause-found : goal.returns-then-index-hash-clause-found
 returns-then-index-hash-clause-found c =
-    let path : List (ℕ × ℕ) = bucket_of c.args.self.now c.args.hash in
-    each_some (λ s. (start : List Event) →
-    IsReached c.args.hash path start c.step.new.self.events c.first_entry.result →
-    IsFound c.args.hash path start c.find_along.new.work.events s)
-    (λ s. IsFound c.args.hash path c.args.work.now.events c.find_along.new.work.events s) c.find_along.result
+    each_some _ _ c.find_along.result
     (λ s f. f _ (reached (goal.at.returns-then-index-hash-clause-found c).After-first_entry))
     c.find_along.ensures.found
 

@@ -57,13 +57,11 @@ invariant_of-self-in-Some c =
     let next = rw c.deref.ensures.value at c.next.ensures in
     let leads = rw (at_bucket all, ← c.self.view_is) at c.first_symbol-first_symbol.ensures in
     let old = head_read c.self.invariant _ _ (within all) (rw (at_bucket all) at c.index-head.ensures) in
-    let apart =
-    chain-distinct (length c.self.inside.heads.items) (c.args.hash % length c.self.inside.heads.items)
-    c.self.inside.hashes.items in
     rw (c.push_reserved.ensures.items, c.push_reserved-in-Some.ensures.items)
     (rw (c.unwrap_or-link.ensures, c.id.ensures, at_bucket all)
     (holds_pushed c.self.invariant c.args.hash _ _ _ _ (within all) (rw (at_bucket all) at c.index.ensures)
     c.marked.ensures.set c.marked.ensures.kept
-    (c.with_after.ensures _ _ _ _ old leads apart pred (c.word-word.ensures.word.0, c.word-word.ensures.word.1 ∙ number_is all))
+    (c.with_after.ensures _ _ _ _ old leads (chain-distinct (length c.self.inside.heads.items)
+    (c.args.hash % length c.self.inside.heads.items) c.self.inside.hashes.items) pred (c.word-word.ensures.word.0, c.word-word.ensures.word.1 ∙ number_is all))
     (place_behind c.self.invariant.linked c.args.hash c.args.symbol (number_is all) c.word-word.ensures.number
     (free all) _ _ (below all c.in-Some.last c.in-Some.ensures) next pred)))
