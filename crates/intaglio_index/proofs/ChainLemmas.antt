@@ -16,10 +16,10 @@ pub eqb-flips : (a b : ℕ) → eqb a b ≡ eqb b a
 eqb-flips a b = grind (arith, common_steps)
 
 -- if P implies Q and holds of each element of a list, so does Q
-pub Each-weaker : {X : Type 0} (P Q : X → Type 0) → ((x : X) → P x → Q x) → (xs : List X) →
-    AllByRecursion P xs → AllByRecursion Q xs
-Each-weaker P Q f [] h = tt
-Each-weaker P Q f (x ∷ xs) h = (f x h.0, Each-weaker P Q f xs h.1)
+pub Each-weaker : {X : Type 0} (P Q : X → Type 0) (xs : List X) → AllByRecursion P xs →
+    ((x : X) → P x → Q x) → AllByRecursion Q xs
+Each-weaker P Q [] h f = tt
+Each-weaker P Q (x ∷ xs) h f = (f x h.0, Each-weaker P Q xs h.1 f)
 
 -- what holds of each element of an append holds of each of the second list
 pub Each-right : {X : Type 0} (P : X → Type 0) (xs ys : List X) → AllByRecursion P (xs ++ ys) →
@@ -160,7 +160,7 @@ places-above : (count b at : ℕ) (hs : List ℕ) → AllByRecursion (λ s. at �
 places-above count b at [] = tt
 places-above count b at (h ∷ hs) =
     let rest =
-    Each-weaker (λ s. at + 1 ≤ s) (λ s. at ≤ s) (λ s l. omega arith) _ (places-above count b (at + 1) hs) in
+    Each-weaker _ _ _ (places-above count b (at + 1) hs) (λ s l. omega arith) in
     cond_both (eqb (h % count) b) (at ∷ places_from count b (at + 1) hs) (places_from count b (at + 1) hs)
     (AllByRecursion (λ s. at ≤ s)) (λ t. (omega arith, rest)) (λ t. rest)
 
@@ -171,8 +171,7 @@ places-distinct count b at [] = tt
 places-distinct count b at (h ∷ hs) =
     let rest = places-distinct count b (at + 1) hs in
     let apart : AllByRecursion (λ y. eqb at y ≡ false) (places_from count b (at + 1) hs) =
-    Each-weaker (λ s. at + 1 ≤ s) (λ y. eqb at y ≡ false) (λ s l. ne_eqb at s (λ e. omega arith)) _
-    (places-above count b (at + 1) hs) in
+    Each-weaker _ _ _ (places-above count b (at + 1) hs) (λ s l. ne_eqb at s (λ e. omega arith)) in
     cond_both (eqb (h % count) b) (at ∷ places_from count b (at + 1) hs) (places_from count b (at + 1) hs)
     (IsDistinct eqb) (λ t. (apart, rest)) (λ t. rest)
 
@@ -194,7 +193,7 @@ insert_sorted-in_order s h (e ∷ es) o =
       insert_sorted-each (λ f. e.1 ≤ f.1) s h es (omega (arith, ltb-true e.1 h is)) o.0,
       insert_sorted-in_order s h es o.1,
     )) (λ is. (let le : h ≤ e.1 = ltb-false e.1 h is in (
-      (le, Each-weaker (λ (f : ℕ × ℕ). e.1 ≤ f.1) (λ (f : ℕ × ℕ). h ≤ f.1) (λ f l. omega arith) es o.0),
+      (le, Each-weaker _ _ es o.0 (λ f l. omega arith)),
       o,
     )))
 

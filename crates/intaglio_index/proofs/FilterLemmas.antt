@@ -23,7 +23,7 @@ filtered-push filters count hashes hash mark filtered within marked kept =
     record {
       size = length-set filters b mark ∙ filtered.size;
       marks = Each-append (λ other. IsMarked (get_or (set filters b mark) (other % count) 0) other) hashes
-          (hash ∷ []) (Each-weaker _ _ stays hashes filtered.marks) (rw here marked, tt);
+          (hash ∷ []) (Each-weaker _ _ hashes filtered.marks stays) (rw here marked, tt);
     }
 
 -- fewer hashes

@@ -54,11 +54,11 @@ path_behind next start (x ∷ front) e behind h = path_behind next (next x.0) fr
 in_no_other : (count b k : ℕ) (hashes : List ℕ) (p h : ℕ) → IsEntry count k hashes (p, h) → b ≢ k →
     AllByRecursion (IsOther (length hashes) p) (chain_from count b 0 [] hashes)
 in_no_other count b k hashes p h entry other =
-    Each-weaker (IsEntry count b hashes) (IsOther (length hashes) p) (λ x is. (
+    Each-weaker _ _ _ (chain-each count b hashes) (λ x is. (
       is.0,
       λ q. other (sym is.2 ∙ ap (λ v. v % count) (sym (is.1 0) ∙ ap (λ s. get_or hashes s 0) q ∙ entry.1 0)
           ∙ entry.2),
-    )) _ (chain-each count b hashes)
+    ))
 
 -- one bucket changes
 linked_changed : (count : ℕ) (hashes later : List ℕ) (links after : List Symbol) (k : ℕ) →
@@ -146,8 +146,7 @@ module _ {count : ℕ} {hashes : List ℕ} {links : List Symbol} (linked : IsLin
       IsThread hashes links (Some first) (bucket b)
   thread_of b first leads = rw leads record {
     path = linked.paths b;
-    read = Each-weaker (IsEntry count b hashes) (λ (e : ℕ × ℕ). (e.0 < length hashes)
-        × (get_or hashes e.0 0 ≡ e.1)) (λ e h. (h.0, h.1 0)) _ (chain-each count b hashes);
+    read = Each-weaker _ _ _ (chain-each count b hashes) (λ e h. (h.0, h.1 0));
     paired = linked.paired;
   }
 
@@ -213,10 +212,8 @@ module _ {count : ℕ} {hashes : List ℕ} {links : List Symbol} (linked : IsLin
         ap (target_of symbol) (get_or_push links link 0 symbol number_is)
         ∙ target_kept symbol next other ∙ is in
         let kept : (b : ℕ) → AllByRecursion (λ (e : ℕ × ℕ). next_of more e.0 ≡ next_of links e.0) (bucket b) =
-        λ b. Each-weaker (IsEntry count b hashes) (λ (e : ℕ × ℕ). next_of more e.0 ≡ next_of links e.0)
-        (λ e h. ap (target_of e.0)
-        (get_or_append_left links (link ∷ []) 0 e.0 (omega (arith, h.0, linked.paired)))) _
-        (chain-each count b hashes) in
+        λ b. Each-weaker _ _ _ (chain-each count b hashes) (λ e h. ap (target_of e.0)
+        (get_or_append_left links (link ∷ []) 0 e.0 (omega (arith, h.0, linked.paired)))) in
         placed_linked more (length-append links (link ∷ [])) (λ b n. kept b)
         (rw (insert_sorted-between symbol hash [] (bucket k) tt begins)
         (refl, rw at_n (path_kept (next_of links) (next_of more) _ _ (kept k) (linked.paths k))))
@@ -248,15 +245,15 @@ module _ {count : ℕ} {hashes : List ℕ} {links : List Symbol} (linked : IsLin
         beside count k hashes pred.front (p, pred.hash) pred.behind
         (rw pred.split at (chain-each count k hashes)) (rw pred.split at (chain-distinct count k hashes)) in
         placed_linked all (length-set more p symbol ∙ size)
-        (λ b n. Each-weaker _ _ same _ (in_no_other count b k hashes p pred.hash entry n))
+        (λ b n. Each-weaker _ _ _ (in_no_other count b k hashes p pred.hash entry n) same)
         (rw (
           put-behind symbol hash (bucket k) p pred,
           leader_same pred.front (p, pred.hash) ((symbol, hash) ∷ pred.behind) pred.behind,
         )
         (path_spliced (next_of links) (next_of all) _ pred.front (p, pred.hash) pred.behind
-        ((symbol, hash) ∷ pred.behind) (Each-weaker _ _ same _ others.0) (
+        ((symbol, hash) ∷ pred.behind) (Each-weaker _ _ _ others.0 same) (
           at_p,
-          rw at_n (path_kept (next_of links) (next_of all) _ _ (Each-weaker _ _ same _ others.1)
+          rw at_n (path_kept (next_of links) (next_of all) _ _ (Each-weaker _ _ _ others.1 same)
               (behind k pred.front (p, pred.hash) pred.behind pred.split)),
         ) (rw pred.split at (linked.paths k))))
 
@@ -310,9 +307,7 @@ module _ {count : ℕ} {hashes : List ℕ} {links : List Symbol} (linked : IsLin
       cut_first begins =
           let k : ℕ = hash % count in
           let same : (b : ℕ) → AllByRecursion (λ (e : ℕ × ℕ). next_of (take i links) e.0 ≡ next_of links e.0) (left b) =
-          λ b. Each-weaker (IsEntry count b (take i hashes)) (λ (e : ℕ × ℕ). next_of (take i links) e.0 ≡ next_of links e.0)
-          (λ e h. ap (target_of e.0) (get_or-take i links e.0 0 (rw left_size at h.0))) _
-          (chain-each count b (take i hashes)) in
+          λ b. Each-weaker _ _ _ (chain-each count b (take i hashes)) (λ e h. ap (target_of e.0) (get_or-take i links e.0 0 (rw left_size at h.0))) in
           let r = unput i hash (left k) [] (bucket k) (sym grows) tt begins in
           let path = path_kept (next_of links) (next_of (take i links)) next (left k) (same k)
           (rw (is_next, r.2) (behind k [] (i, hash) r.0 r.1)) in
@@ -342,9 +337,9 @@ module _ {count : ℕ} {hashes : List ℕ} {links : List Symbol} (linked : IsLin
           ap (target_of p) (get_or-set_same (take i links) p (unwrap_or next p) 0 (omega (arith, predecessor_below p pred, size)))
           ∙ target_kept p next (begins_elsewhere (next_of links) next _ p r.0 others.1 on) in (
             left_linked after (length-set (take i links) p (unwrap_or next p) ∙ size)
-                (λ b n. Each-weaker _ _ same _ (in_no_other count b k (take i hashes) p pred.hash entry n))
-                (rw (r.2, leader_same pred.front (p, pred.hash) r.0 pred.behind) (path_spliced (next_of links) (next_of after) _ pred.front (p, pred.hash) pred.behind r.0 (Each-weaker _ _ same _ others.0)
-                (rw at_p (path_kept (next_of links) (next_of after) next _ (Each-weaker _ _ same _ others.1) on))
+                (λ b n. Each-weaker _ _ _ (in_no_other count b k (take i hashes) p pred.hash entry n) same)
+                (rw (r.2, leader_same pred.front (p, pred.hash) r.0 pred.behind) (path_spliced (next_of links) (next_of after) _ pred.front (p, pred.hash) pred.behind r.0 (Each-weaker _ _ _ others.0 same)
+                (rw at_p (path_kept (next_of links) (next_of after) next _ (Each-weaker _ _ _ others.1 same) on))
                 (rw pred.split at (linked.paths k)))),
             leads,
           )

@@ -105,7 +105,7 @@ module _ (h : ℕ) (path : List (ℕ × ℕ)) (old now : List Event) where
   others candidate (x ∷ xs) next order m =
       let above : h < x.1 = rw next at m in (
         (λ q. omega arith),
-        Each-weaker (λ (e : ℕ × ℕ). x.1 ≤ e.1) (λ (e : ℕ × ℕ). e.1 ≢ h) (λ e l q. omega arith) xs order.0,
+        Each-weaker _ _ xs order.0 (λ e l q. omega arith),
       )
 
   order_right : (front rest : List (ℕ × ℕ)) → InOrder (front ++ rest) → InOrder rest
@@ -118,8 +118,7 @@ module _ (h : ℕ) (path : List (ℕ × ℕ)) (old now : List Event) where
       let behind =
       others candidate at.walk.rest at.walk.next
       (order_right at.walk.front at.walk.rest (rw at.walk.split at order)) m in
-      let front = Each-weaker (λ (e : ℕ × ℕ). e.1 < h) (λ (e : ℕ × ℕ). e.1 ≢ h) (λ e l q. omega arith)
-      at.walk.front at.walk.smaller in
+      let front = Each-weaker _ _ at.walk.front at.walk.smaller (λ e l q. omega arith) in
       rw at.walk.split (Each-append (λ (e : ℕ × ℕ). e.1 ≢ h) at.walk.front at.walk.rest front behind)
 
 -- if P implies Q and holds of a symbol that may be there, so does Q
@@ -145,8 +144,7 @@ module _ (v : Placed) (h size : ℕ) (head : Head) (some : 0 < size) where
   none_by_words e (f ∷ fs) split is first second (inl less) =
       let blocks = below_block size some h head.second less (λ q. second (sym q)) in
       let above : h < f.1 = block_below size some h f.1 (omega (arith, blocks, is.1.0)) in
-      let rest = Each-weaker (λ (x : ℕ × ℕ). f.1 ≤ x.1) (λ (x : ℕ × ℕ). x.1 ≢ h) (λ x l q. omega arith) fs
-      (rw split at (chain-in_order v (h % v.count))).1.0 in
+      let rest = Each-weaker _ _ fs (rw split at (chain-in_order v (h % v.count))).1.0 (λ x l q. omega arith) in
       (differs e head.first is.0 first, ((λ q. omega arith), rest))
 
   -- that the first two have smaller ones
