@@ -159,27 +159,24 @@ module _ {count : ℕ} {hashes : List ℕ} {links : List Symbol} (linked : IsLin
       (b hash : ℕ) (before rest : List (ℕ × ℕ)) → bucket b ≡ before ++ (s, hash) ∷ rest →
       option_map (entry_of hashes) next ≡ head_of rest
   after_reads s next e b hash before rest split =
-      rw e (read_path (next_of links s) b rest (chain-entry count b hashes before (s, hash) rest split).1
-      (behind b before (s, hash) rest split))
+      rw e (read_path _ b rest (chain-entry _ _ _ _ _ _ split).1 (behind b _ _ _ split))
 
   -- each symbol is on the path of its bucket, so no link leads past the placed ones
   pub link_within : (s : ℕ) (t : Symbol) → s < length hashes → next_of links s ≡ Some t → t < length hashes
   link_within s t l e =
       let k : ℕ = get_or hashes s 0 % count in
       let here = entry-split (bucket k) s (chain-complete count k hashes s l refl) in
-      path_within (IsEntry count k hashes) (next_of links) (next_of links s) (length hashes) here.2
-      (chain-entry count k hashes here.0 here.1 here.2 here.3).1 (λ e is. is.0)
-      (rw here.4 at (behind k here.0 here.1 here.2 here.3)) t e
+      path_within _ _ _ _ here.2 (chain-entry _ _ _ _ _ _ here.3).1 (λ e is. is.0)
+      (rw here.4 at (behind k _ _ _ here.3)) t e
 
   -- a bucket's first symbol is among the placed ones
   pub leader_within : (b : ℕ) (s : Symbol) → first_symbol_of (bucket b) ≡ Some s → s < length hashes
-  leader_within b s e = path_within (IsEntry count b hashes) (next_of links) _ (length hashes) (bucket b)
-      (chain-each count b hashes) (λ e is. is.0) (linked.paths b) s e
+  leader_within b s e =
+      path_within _ _ _ _ (bucket b) (chain-each count b hashes) (λ e is. is.0) (linked.paths b) s e
 
   -- a predecessor is among the placed symbols
   pub predecessor_within : (hash b p : ℕ) → IsPredecessor hash (bucket b) p → p < length hashes
-  predecessor_within hash b p pred =
-      (chain-entry count b hashes pred.front (p, pred.hash) pred.behind pred.split).0.0
+  predecessor_within hash b p pred = (chain-entry _ _ _ _ _ _ pred.split).0.0
 
   module _ (hash : ℕ) (symbol : Symbol) (numbered : symbol ≡ length hashes) (small : symbol < 2 ^ 32)
       (free : symbol < count) where
@@ -193,8 +190,7 @@ module _ {count : ℕ} {hashes : List ℕ} {links : List Symbol} (linked : IsLin
         IsLinked count (hashes ++ hash ∷ []) after
     placed_linked after size kept path =
         let more = length-append hashes (hash ∷ []) in
-        linked_changed count hashes (hashes ++ hash ∷ []) links after (hash % count) linked
-        (λ b n. chain-stays count b hashes hash n) kept
+        linked_changed _ _ _ _ after (hash % count) linked (λ b n. chain-stays count b hashes hash n) kept
         (rw (chain-grows count hashes hash, ← numbered) path) (omega (arith, size, more, linked.paired))
         (omega (arith, free, numbered, more)) (omega (arith, small, numbered, more))
 
@@ -240,22 +236,15 @@ module _ {count : ℕ} {hashes : List ℕ} {links : List Symbol} (linked : IsLin
         let same : (e : ℕ × ℕ) → IsOther (length hashes) p e → next_of all e.0 ≡ next_of links e.0 = λ e h.
         ap (target_of e.0) (get_or-set_other more p e.0 symbol 0 h.1
         ∙ get_or_append_left links (link ∷ []) 0 e.0 (omega (arith, h.0, linked.paired))) in
-        let entry = (chain-entry count k hashes pred.front (p, pred.hash) pred.behind pred.split).0 in
-        let others =
-        beside count k hashes pred.front (p, pred.hash) pred.behind
+        let entry = (chain-entry _ _ _ _ _ _ pred.split).0 in
+        let others = beside count k hashes pred.front (p, pred.hash) pred.behind
         (rw pred.split at (chain-each count k hashes)) (rw pred.split at (chain-distinct count k hashes)) in
         placed_linked all (length-set more p symbol ∙ size)
         (λ b n. Each-weaker _ _ _ (in_no_other count b k hashes p pred.hash entry n) same)
-        (rw (
-          put-behind symbol hash (bucket k) p pred,
-          leader_same pred.front (p, pred.hash) ((symbol, hash) ∷ pred.behind) pred.behind,
-        )
-        (path_spliced (next_of links) (next_of all) _ pred.front (p, pred.hash) pred.behind
-        ((symbol, hash) ∷ pred.behind) (Each-weaker _ _ _ others.0 same) (
-          at_p,
-          rw at_n (path_kept (next_of links) (next_of all) _ _ (Each-weaker _ _ _ others.1 same)
-              (behind k pred.front (p, pred.hash) pred.behind pred.split)),
-        ) (rw pred.split at (linked.paths k))))
+        (rw (put-behind symbol hash (bucket k) p pred, leader_same pred.front (p, pred.hash) _ pred.behind)
+        (path_spliced (next_of links) _ _ pred.front _ pred.behind _ (Each-weaker _ _ _ others.0 same)
+        (at_p, rw at_n (path_kept _ _ _ _ (Each-weaker _ _ _ others.1 same) (behind k _ _ _ pred.split)))
+        (rw pred.split at (linked.paths k))))
 
   -- the last symbol is taken out of its bucket
   module _ (hash i : ℕ) (last : i + 1 ≡ length hashes) (read : hash ≡ get_or hashes i hash) where
@@ -282,7 +271,7 @@ module _ {count : ℕ} {hashes : List ℕ} {links : List Symbol} (linked : IsLin
         IsPath (next_of after) (first_symbol_of (left (hash % count))) (symbols_of (left (hash % count))) →
         IsLinked count (take i hashes) after
     left_linked after size kept path =
-        linked_changed count hashes (take i hashes) links after (hash % count) linked others_stay
+        linked_changed _ _ _ _ after (hash % count) linked others_stay
         (λ b n. rw (← others_stay b n) (kept b n)) path (size ∙ sym left_size)
         (omega (arith, left_size, linked.few)) (omega (arith, left_size, linked.numbered))
 
@@ -326,7 +315,7 @@ module _ {count : ℕ} {hashes : List ℕ} {links : List Symbol} (linked : IsLin
           ap (target_of e.0) (get_or-set_other (take i links) p e.0 (unwrap_or next p) 0 h.1
           ∙ get_or-take i links e.0 0 (rw left_size at h.0)) in
           let r = parted p pred in
-          let entry = (chain-entry count k (take i hashes) pred.front (p, pred.hash) r.0 r.2).0 in
+          let entry = (chain-entry _ _ _ _ _ _ r.2).0 in
           let others =
           beside count k (take i hashes) pred.front (p, pred.hash) r.0
           (rw r.2 at (chain-each count k (take i hashes))) (rw r.2 at (chain-distinct count k (take i hashes))) in

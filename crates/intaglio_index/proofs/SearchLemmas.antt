@@ -27,7 +27,7 @@ absent_on v hash none =
     (let at : get_or v.hashes i 0 ≡ hash = get_or_default v.hashes i 0 d l ∙ e in
     let found = chain-complete v.count (hash % v.count) v.hashes i l (rw at refl) in
     let parts = entry-split (chain_from v.count (hash % v.count) 0 [] v.hashes) i found in
-    let entry = (chain-entry v.count (hash % v.count) v.hashes parts.0 parts.1 parts.2 parts.3).0 in
+    let entry = (chain-entry _ _ _ _ _ _ parts.3).0 in
     let other = (Each-right (λ (x : ℕ × ℕ). x.1 ≢ hash) parts.0 (parts.1 ∷ parts.2) (rw parts.3 at none)).0 in
     other (sym (entry.1 0) ∙ ap (λ s. get_or v.hashes s 0) parts.4 ∙ at)))
 
@@ -209,7 +209,7 @@ pub entry_placed : (v : Placed) (b s h : ℕ) (before behind : List (ℕ × ℕ)
     chain v b ≡ before ++ (s, h) ∷ behind → (s < length v.hashes) × (get_or v.hashes s 0 ≡ h)
 unfolding chain
 entry_placed v b s h before behind split =
-    let entry = (chain-entry v.count b v.hashes before (s, h) behind split).0 in (entry.0, entry.1 0)
+    let entry = (chain-entry _ _ _ _ _ _ split).0 in (entry.0, entry.1 0)
 
 -- steps one after the other
 pub two_steps : (old a b : List Event) → a ≡ old ++ step ∷ [] → b ≡ a ++ step ∷ [] →

@@ -93,4 +93,4 @@ module _ (v : Placed) (b : ℕ) where
   unfolding chain
   within h s k walk =
       let rest = standing h (chain v b) (s, k) walk in
-      (chain-entry v.count b v.hashes walk.front (s, k) rest.0 rest.1).0.0
+      (chain-entry _ _ _ _ _ _ rest.1).0.0
