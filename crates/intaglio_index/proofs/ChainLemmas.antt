@@ -140,8 +140,7 @@ chain_from-permutation count b at met (h ∷ hs) =
     ++ symbols_of met)
     (symbols_of (chain_from count b (at + 1) (cond t (insert_sorted at h met) met) hs))) [
       | true ↦ IsPermutation-trans _ _ _
-          (IsPermutation-trans _ _ _
-          (IsPermutation-sym _ _
+          (IsPermutation-trans _ _ _ (IsPermutation-sym _ _
           (IsPermutation-middle (places_from count b (at + 1) hs) at (symbols_of met)))
           (IsPermutation-append_right (places_from count b (at + 1) hs) _ _
           (insert_sorted-permutation at h met)))
@@ -242,8 +241,7 @@ places-complete count b at (h ∷ hs) (suc i) d l e =
     (let z : at + suc i ≡ (at + 1) + i = omega arith in
     rw z (places-complete count b (at + 1) hs i d (omega arith) e)) in
     cond_both (eqb (h % count) b) (at ∷ places_from count b (at + 1) hs) (places_from count b (at + 1) hs)
-    (λ (ps : List ℕ). Contains ps (at + suc i))
-    (λ t. Contains-append_right (at ∷ []) _ _ rest) (λ t. rest)
+    (λ (ps : List ℕ). Contains ps (at + suc i)) (λ t. Contains-append_right (at ∷ []) _ _ rest) (λ t. rest)
 
 -- a placed symbol whose hash falls in a bucket is on the chain of that bucket
 pub chain-complete : (count b : ℕ) (hs : List ℕ) (i : ℕ) → i < length hs → get_or hs i 0 % count ≡ b →

@@ -42,8 +42,7 @@ filtered-vacated filters count hashes k filtered none =
     record {
       size = length-set filters k 0 ∙ filtered.size;
       marks = recursion_from_All P hashes (λ i d l.
-          (let other : get_or hashes i d % count ≢ k = λ e.
-          (let found =
+          (let other : get_or hashes i d % count ≢ k = λ e. (let found =
           chain-complete count k hashes i l (ap (λ n. n % count) (get_or_default hashes i 0 d l) ∙ e) in
           let within : found.0 < length (symbols_of (chain_from count k 0 [] hashes)) = found.1 in
           absurd (omega (arith, rw none at within))) in

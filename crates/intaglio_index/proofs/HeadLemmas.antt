@@ -183,8 +183,7 @@ module _ {m : Modulus} {heads : List Head} {filters hashes : List ℕ} {links : 
 
   -- one bucket changes
   holds_changed : (later : List ℕ) (after : List Symbol) (k : ℕ) (head : Head) (filter : ℕ) → k < length heads →
-      ((b : ℕ) → b ≢ k →
-      chain_from (length heads) b 0 [] later ≡ chain_from (length heads) b 0 [] hashes) →
+      ((b : ℕ) → b ≢ k → chain_from (length heads) b 0 [] later ≡ chain_from (length heads) b 0 [] hashes) →
       (filter ≡ 0) ↔ (chain_from (length heads) k 0 [] later ≡ []) →
       IsHead (m.mask + 1) head (chain_from (length heads) k 0 [] later) → IsLinked (length heads) later after →
       IsFiltered (set filters k filter) (length heads) later →
@@ -225,8 +224,7 @@ module _ {m : Modulus} {heads : List Head} {filters hashes : List ℕ} {links : 
       let same = get_or_read filters k filter (omega (arith, holds.filtered.size)) read 0 in
       let grows = chain-grows (length heads) hashes hash in
       holds_changed (hashes ++ hash ∷ []) after k head mark within
-      (λ b other. chain-stays (length heads) b hashes hash other)
-      (neither (marked-some mark hash marked)
+      (λ b other. chain-stays (length heads) b hashes hash other) (neither (marked-some mark hash marked)
       (λ e. put-some (length hashes) hash (chain_from (length heads) k 0 [] hashes) (sym grows ∙ e)))
       (rw grows is) linked (filtered-push filters (length heads) hashes hash mark holds.filtered within marked
       (λ other m. kept other (rw (← same) at m)))

@@ -63,8 +63,7 @@ in_no_other count b k hashes p h entry other =
 -- one bucket changes
 linked_changed : (count : ℕ) (hashes later : List ℕ) (links after : List Symbol) (k : ℕ) →
     IsLinked count hashes links →
-    ((b : ℕ) → b ≢ k → chain_from count b 0 [] later ≡ chain_from count b 0 [] hashes)
-    → ((b : ℕ) → b ≢ k →
+    ((b : ℕ) → b ≢ k → chain_from count b 0 [] later ≡ chain_from count b 0 [] hashes) → ((b : ℕ) → b ≢ k →
     AllByRecursion (λ (e : ℕ × ℕ). next_of after e.0 ≡ next_of links e.0) (chain_from count b 0 [] hashes))
     → IsPath (next_of after) (first_symbol_of (chain_from count k 0 [] later))
     (symbols_of (chain_from count k 0 [] later))

@@ -345,8 +345,7 @@ module _ (v : Placed) (h size : ℕ) (head : Head) (some : 0 < size) (exact : v.
     }
 
     pub behind_second : (candidate : Option (ℕ × ℕ)) → head.first < h / size * size →
-        head.second < h / size * size →
-        ((b hash : ℕ) (before behind : List (ℕ × ℕ)) →
+        head.second < h / size * size → ((b hash : ℕ) (before behind : List (ℕ × ℕ)) →
         chain v b ≡ before ++ (head.second % size, hash) ∷ behind → candidate ≡ head_of behind) →
         IsAt h (chain v (h % v.count)) (Some (head.second % size)) candidate
     behind_second candidate first second after =

@@ -30,6 +30,5 @@ returns-clause-found c =
 
 pub returns-clause-passed : goal.returns-clause-passed
 returns-clause-passed c =
-    λ e start begun.
-    c.find_along.ensures.passed e start
+    λ e start begun. c.find_along.ensures.passed e start
     (reached (goal.at.returns-clause-passed c).After-next_entry start begun)

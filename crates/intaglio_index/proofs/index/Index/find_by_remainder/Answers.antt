@@ -42,8 +42,7 @@ index-requires-2 c =
 
 reached : (c : After-first_entry) →
     IsReached c.args.hash (bucket_of c.args.self.now c.args.hash) c.args.work.now.events
-    c.step.new.self.events
-    c.first_entry.result
+    c.step.new.self.events c.first_entry.result
 reached c =
     let at : c.bucket-bucket.result ≡ c.args.hash % c.args.self.now.count = c.bucket-bucket.ensures
     ∙ ap (λ n. c.args.hash % n) (c.self.invariant.counted ∙ ap (λ (v : Placed). v.count) c.self.view_is) in

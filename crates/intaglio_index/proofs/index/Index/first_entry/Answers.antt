@@ -17,5 +17,4 @@ returns c =
     let leads = rw (← c.self.view_is) at c.first_symbol.ensures in
     let entry = rw c.deref.ensures.value at c.entry.ensures in
     rw (← c.self.view_is) (entry ∙ ap (option_map (entry_of c.self.inside.hashes.items)) leads
-    ∙ first_reads c.self.invariant.linked
-    c.args.bucket)
+    ∙ first_reads c.self.invariant.linked c.args.bucket)

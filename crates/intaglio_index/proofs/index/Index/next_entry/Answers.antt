@@ -7,8 +7,7 @@ pub entry-requires : goal.entry-requires
 entry-requires c =
     let within : c.args.symbol < length c.self.inside.hashes.items = rw (← c.self.view_is) at c.requires in
     let next = rw c.deref-2.ensures.value at c.next.ensures in
-    λ s e. rw c.deref.ensures.value
-    (link_within c.self.invariant.linked
+    λ s e. rw c.deref.ensures.value (link_within c.self.invariant.linked
     c.args.symbol s within (sym next ∙ e))
 
 pub returns : goal.returns
@@ -18,6 +17,5 @@ returns c =
     let entry = rw c.deref.ensures.value at c.entry.ensures in
     rw (← c.self.view_is) record {
       next = λ b hash before behind e. entry
-          ∙ after_reads c.self.invariant.linked
-          c.args.symbol _ next b hash before behind e;
+          ∙ after_reads c.self.invariant.linked c.args.symbol _ next b hash before behind e;
     }
