@@ -80,16 +80,14 @@ chain_from-push count b at met (y ∷ ys) h =
     rw (← e) (chain_from-push count b (at + 1) (cond (eqb (y % count) b) (insert_sorted at y met) met) ys h)
 
 -- with one more hash, its symbol is inserted into the chain of its bucket, and no other chain changes
-pub chain-push : (count b : ℕ) (hs : List ℕ) (h : ℕ) →
-    chain_from count b 0 [] (hs ++ h ∷ [])
+pub chain-push : (count b : ℕ) (hs : List ℕ) (h : ℕ) → chain_from count b 0 [] (hs ++ h ∷ [])
     ≡ cond (eqb (h % count) b) (insert_sorted (length hs) h (chain_from count b 0 [] hs))
     (chain_from count b 0 [] hs)
 chain-push count b hs h = let zero : 0 + length hs ≡ length hs = omega arith in
     rw zero at (chain_from-push count b 0 [] hs h)
 
 -- the hash's own bucket has one symbol more, and the others stay
-pub chain-grows : (count : ℕ) (hs : List ℕ) (h : ℕ) →
-    chain_from count (h % count) 0 [] (hs ++ h ∷ [])
+pub chain-grows : (count : ℕ) (hs : List ℕ) (h : ℕ) → chain_from count (h % count) 0 [] (hs ++ h ∷ [])
     ≡ insert_sorted (length hs) h (chain_from count (h % count) 0 [] hs)
 chain-grows count hs h = chain-push count (h % count) hs h ∙ rw (eq-eqb (h % count) (h % count) refl) refl
 
@@ -124,8 +122,7 @@ chain-entry count b hs front e behind split =
 insert_sorted-permutation : (s h : ℕ) (es : List (ℕ × ℕ)) →
     IsPermutation (s ∷ symbols_of es) (symbols_of (insert_sorted s h es))
 insert_sorted-permutation s h [] = IsPermutation-refl (s ∷ [])
-insert_sorted-permutation s h (e ∷ es) =
-    cond_both (ltb e.1 h) (e ∷ insert_sorted s h es) ((s, h) ∷ e ∷ es)
+insert_sorted-permutation s h (e ∷ es) = cond_both (ltb e.1 h) (e ∷ insert_sorted s h es) ((s, h) ∷ e ∷ es)
     (λ (ys : List (ℕ × ℕ)). IsPermutation (s ∷ e.0 ∷ symbols_of es) (symbols_of ys)) (λ t.
     IsPermutation-trans _ _ _ (IsPermutation-sym _ _ (IsPermutation-middle (e.0 ∷ []) s (symbols_of es)))
     (IsPermutation-cons e.0 _ _ (insert_sorted-permutation s h es))) (λ t. IsPermutation-refl _)
@@ -139,8 +136,7 @@ chain_from-permutation count b at met (h ∷ hs) =
     (λ t. IsPermutation (cond t (at ∷ places_from count b (at + 1) hs) (places_from count b (at + 1) hs)
     ++ symbols_of met)
     (symbols_of (chain_from count b (at + 1) (cond t (insert_sorted at h met) met) hs))) [
-      | true ↦ IsPermutation-trans _ _ _
-          (IsPermutation-trans _ _ _ (IsPermutation-sym _ _
+      | true ↦ IsPermutation-trans _ _ _ (IsPermutation-trans _ _ _ (IsPermutation-sym _ _
           (IsPermutation-middle (places_from count b (at + 1) hs) at (symbols_of met)))
           (IsPermutation-append_right (places_from count b (at + 1) hs) _ _
           (insert_sorted-permutation at h met)))
@@ -158,8 +154,7 @@ chain-permutation count b hs =
 places-above : (count b at : ℕ) (hs : List ℕ) → AllByRecursion (λ s. at ≤ s) (places_from count b at hs)
 places-above count b at [] = tt
 places-above count b at (h ∷ hs) =
-    let rest =
-    Each-weaker _ _ _ (places-above count b (at + 1) hs) (λ s l. omega arith) in
+    let rest = Each-weaker _ _ _ (places-above count b (at + 1) hs) (λ s l. omega arith) in
     cond_both (eqb (h % count) b) (at ∷ places_from count b (at + 1) hs) (places_from count b (at + 1) hs)
     (AllByRecursion (λ s. at ≤ s)) (λ t. (omega arith, rest)) (λ t. rest)
 
@@ -200,8 +195,7 @@ insert_sorted-in_order s h (e ∷ es) o =
 chain_from-in_order : (count b at : ℕ) (met : List (ℕ × ℕ)) (hs : List ℕ) → InOrder met →
     InOrder (chain_from count b at met hs)
 chain_from-in_order count b at met [] o = o
-chain_from-in_order count b at met (h ∷ hs) o =
-    chain_from-in_order count b (at + 1) _ hs
+chain_from-in_order count b at met (h ∷ hs) o = chain_from-in_order count b (at + 1) _ hs
     (cond_both (eqb (h % count) b) (insert_sorted at h met) met InOrder
     (λ t. insert_sorted-in_order at h met o) (λ t. o))
 

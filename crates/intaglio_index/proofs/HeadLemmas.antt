@@ -61,8 +61,7 @@ module _ (size s h word : ℕ) (is_word : IsWord size (s, h) word) where
   pub head_second : (head : Head) (path : List (ℕ × ℕ)) (last : ℕ) → IsDistinct eqb (symbols_of path) →
       IsHead size head path → Some last ≡ first_symbol_of path → IsPredecessor h path last →
       IsHead size (record { first = head.first; second = word }) (insert_sorted s h path)
-  head_second head path last apart is leads pred =
-      rw (put-behind s h path last pred)
+  head_second head path last apart is leads pred = rw (put-behind s h path last pred)
       (second_at head pred.front last pred.hash pred.behind (rw pred.split at apart) (rw pred.split at is)
       (rw pred.split at leads))
 
@@ -78,8 +77,7 @@ module _ (size s h word : ℕ) (is_word : IsWord size (s, h) word) where
   pub head_stays : (head : Head) (path : List (ℕ × ℕ)) (first last : ℕ) → IsHead size head path →
       Some first ≡ first_symbol_of path → first ≢ last → IsPredecessor h path last →
       IsHead size head (insert_sorted s h path)
-  head_stays head path first last is leads other pred =
-      rw (put-behind s h path last pred)
+  head_stays head path first last is leads other pred = rw (put-behind s h path last pred)
       (later_at head pred.front first last pred.hash pred.behind (rw pred.split at is)
       (rw pred.split at leads) other)
 
@@ -150,8 +148,7 @@ module _ {v : Placed} {m : Modulus} {heads : List Head} {filters hashes : List �
 
   pub is_occupied : (k : ℕ) (head : Head) (filter : ℕ) → k < v.count → head ≡ get_or heads k head →
       filter ≡ get_or filters k filter → (filter ≡ 0 → ⊥) → IsOccupied v k (m.mask + 1) head
-  is_occupied k head filter within read_head read some =
-      is_occupied_by k head within read_head (λ none.
+  is_occupied k head filter within read_head read some = is_occupied_by k head within read_head (λ none.
       some (get_or_read filters k filter (omega (arith, count_is, holds.filtered.size)) read 0
       ∙ (empty_bucket_at k within).1 none))
 

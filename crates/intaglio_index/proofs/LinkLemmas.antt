@@ -269,8 +269,7 @@ module _ {count : ℕ} {hashes : List ℕ} {links : List Symbol} (linked : IsLin
         AllByRecursion (λ (e : ℕ × ℕ). next_of after e.0 ≡ next_of links e.0) (left b)) →
         IsPath (next_of after) (first_symbol_of (left (hash % count))) (symbols_of (left (hash % count))) →
         IsLinked count (take i hashes) after
-    left_linked after size kept path =
-        linked_changed _ _ _ _ after (hash % count) linked others_stay
+    left_linked after size kept path = linked_changed _ _ _ _ after (hash % count) linked others_stay
         (λ b n. rw (← others_stay b n) (kept b n)) path (size ∙ sym left_size)
         (omega (arith, left_size, linked.few)) (omega (arith, left_size, linked.numbered))
 
@@ -315,8 +314,7 @@ module _ {count : ℕ} {hashes : List ℕ} {links : List Symbol} (linked : IsLin
           ∙ get_or-take i links e.0 0 (rw left_size at h.0)) in
           let r = parted p pred in
           let entry = (chain-entry _ _ _ _ _ _ r.2).0 in
-          let others =
-          beside count k (take i hashes) pred.front (p, pred.hash) r.0
+          let others = beside count k (take i hashes) pred.front (p, pred.hash) r.0
           (rw r.2 at (chain-each count k (take i hashes))) (rw r.2 at (chain-distinct count k (take i hashes))) in
           let leads : first_symbol_of (left k) ≡ first_symbol_of (bucket k) = ap first_symbol_of r.2
           ∙ leader_same pred.front (p, pred.hash) r.0 pred.behind ∙ ap first_symbol_of (sym pred.split) in

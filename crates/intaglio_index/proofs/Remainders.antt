@@ -27,8 +27,7 @@ module _ (size count inverse over hash quotient left : ℕ) (reciprocal : invers
 
   below_quotient : quotient * count ≤ hash
   below_quotient = elim (cases_lt hash (quotient * count)) [
-    | inl above ↦
-        (let next : hash + 1 ≤ quotient * count = omega arith in
+    | inl above ↦ (let next : hash + 1 ≤ quotient * count = omega arith in
         let scaled : (hash + 1) * size ≤ quotient * count * size = mul-le-mul_right size next in
         absurd (omega (arith, whole, scaled)))
     | inr at_most ↦ at_most

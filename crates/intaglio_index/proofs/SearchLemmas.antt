@@ -22,8 +22,7 @@ pub absent_on : (v : Placed) (hash : ℕ) →
     AllByRecursion (λ (e : ℕ × ℕ). e.1 ≢ hash) (chain v (hash % v.count)) →
     AllByRecursion (λ placed. placed ≢ hash) v.hashes
 unfolding chain
-absent_on v hash none =
-    recursion_from_All (λ placed. placed ≢ hash) v.hashes (λ i d l e.
+absent_on v hash none = recursion_from_All (λ placed. placed ≢ hash) v.hashes (λ i d l e.
     (let at : get_or v.hashes i 0 ≡ hash = get_or_default v.hashes i 0 d l ∙ e in
     let found = chain-complete v.count (hash % v.count) v.hashes i l (rw at refl) in
     let parts = entry-split (chain_from v.count (hash % v.count) 0 [] v.hashes) i found in
@@ -82,11 +81,9 @@ module _ (h : ℕ) (path : List (ℕ × ℕ)) (old now : List Event) where
       record {
         front = at.walk.front;
         behind = rest.0;
-        split = rest.1
-            ∙ ap (λ n. at.walk.front ++ (s, n) ∷ rest.0) (sym same);
+        split = rest.1 ∙ ap (λ n. at.walk.front ++ (s, n) ∷ rest.0) (sym same);
         smaller = at.walk.smaller;
-        events =
-            at.events;
+        events = at.events;
       }
 
   -- nothing is left, or a greater hash
@@ -95,8 +92,7 @@ module _ (h : ℕ) (path : List (ℕ × ℕ)) (old now : List Event) where
       record {
         more = length at.walk.front;
         few = omega (arith, ap length at.walk.split, length-append at.walk.front at.walk.rest);
-        events =
-            at.events;
+        events = at.events;
       }
 
   others : (candidate : Option (ℕ × ℕ)) (rest : List (ℕ × ℕ)) → candidate ≡ head_of rest → InOrder rest →
@@ -115,8 +111,7 @@ module _ (h : ℕ) (path : List (ℕ × ℕ)) (old now : List Event) where
   pub ends : (candidate : Option (ℕ × ℕ)) → IsReached h path old now candidate → InOrder path →
       MatchOption candidate (Unit {0}) (λ e. h < e.1) → AllByRecursion (λ (e : ℕ × ℕ). e.1 ≢ h) path
   ends candidate at order m =
-      let behind =
-      others candidate at.walk.rest at.walk.next
+      let behind = others candidate at.walk.rest at.walk.next
       (order_right at.walk.front at.walk.rest (rw at.walk.split at order)) m in
       let front = Each-weaker _ _ at.walk.front at.walk.smaller (λ e l q. omega arith) in
       rw at.walk.split (Each-append (λ (e : ℕ × ℕ). e.1 ≢ h) at.walk.front at.walk.rest front behind)
@@ -179,8 +174,7 @@ module _ (v : Placed) (h size : ℕ) (head : Head) (some : 0 < size) where
       head.first / size ≢ h / size → head.second / size ≡ h / size →
       (get_or v.hashes (head.second % size) 0 ≡ h) ⊎ (v.count ≡ size) → (old new : List Event) →
       new ≡ old ++ replicate 2 step → IsFound h (chain v (h % v.count)) old new (head.second % size)
-  second_found e [] split is first second sure old new events =
-      absurd (first (is.0.0 ∙ sym is.1.0 ∙ second))
+  second_found e [] split is first second sure old new events = absurd (first (is.0.0 ∙ sym is.1.0 ∙ second))
   second_found e (f ∷ fs) split is first second sure old new events =
       let entry = (rw split at (chain-entries v (h % v.count))).1.0 in
       let same = sure_of f entry (sym is.1.0 ∙ second) (rw is.1.1 at sure) in

@@ -29,8 +29,7 @@ rest_of-split (x ∷ seen) (e ∷ behind) d =
 -- if no symbol of a path occurs twice and the candidate is the head of a rest, that rest is left at it
 pub rest_of-at : (path seen rest : List (ℕ × ℕ)) (candidate : Option (ℕ × ℕ)) → path ≡ seen ++ rest →
     IsDistinct eqb (symbols_of path) → candidate ≡ head_of rest → rest_of path candidate ≡ rest
-rest_of-at path seen rest candidate split d next =
-    rw (split, next) (rest_of-split seen rest (rw split at d))
+rest_of-at path seen rest candidate split d next = rw (split, next) (rest_of-split seen rest (rw split at d))
 
 -- a list with this head is the head and what stands behind it
 pub some-rest : (rest : List (ℕ × ℕ)) (e : ℕ × ℕ) → Some e ≡ head_of rest → (behind : List (ℕ × ℕ))

@@ -14,8 +14,7 @@ returns-then-hash-found-clause-passed c =
     λ e start from. passes _ _ _ _ _ (c.loop-candidate.invariant.since start from)
 
 pub returns-then-hash-found-2-clause-found : goal.returns-then-hash-found-2-clause-found
-returns-then-hash-found-2-clause-found c =
-    λ start from.
+returns-then-hash-found-2-clause-found c = λ start from.
     finds _ _ _ _ _ c.in-Some.found.1 (rw c.in-Some.is at (c.loop-candidate.invariant.since start from))
     c.if-hash-found-2.true
 
@@ -24,8 +23,7 @@ next_entry-candidate-requires c =
     within _ _ _ _ c.in-Some.found.1 (rw c.in-Some.is at c.loop-candidate.invariant.reached.1).walk
 
 pub loop-candidate-smaller : goal.loop-candidate-smaller
-loop-candidate-smaller c =
-    rw c.in-Some.is
+loop-candidate-smaller c = rw c.in-Some.is
     (falls _ _ _ _ c.in-Some.found.1 _ (rw c.in-Some.is at c.loop-candidate.invariant.reached.1).walk
     (c.next_entry-candidate.ensures.next _ _))
 
@@ -38,8 +36,7 @@ loop-candidate-preserved c =
         goes_on _ _ _ _ _ c.in-Some.found.1 _ _ (rw c.in-Some.is at c.loop-candidate.invariant.reached.1)
             l c.step.ensures (c.next_entry-candidate.ensures.next _ _),
       );
-      since = λ start from.
-          goes_on _ _ _ _ _ c.in-Some.found.1 _ _
+      since = λ start from. goes_on _ _ _ _ _ c.in-Some.found.1 _ _
           (rw c.in-Some.is at (c.loop-candidate.invariant.since start from)) l c.step.ensures
           (c.next_entry-candidate.ensures.next _ _);
     }

@@ -12,8 +12,7 @@ next_entry-requires c = second_placed _ _ _ c.requires.behind
 reached : (c : After-next_entry) (start : List Event) → c.args.work.now.events ≡ start ++ step ∷ [] →
     IsReached c.args.hash (chain c.args.self.now (c.args.hash % c.args.self.now.count)) start
     c.step-2.new.self.events c.next_entry.result
-reached c start begun =
-    begins_third c.requires.behind _ _ _ (c.next_entry.ensures.next _ _)
+reached c start begun = begins_third c.requires.behind _ _ _ (c.next_entry.ensures.next _ _)
     (three_steps _ _ _ _ begun c.step.ensures c.step-2.ensures)
 
 pub find_along-requires : goal.find_along-requires
@@ -23,12 +22,10 @@ find_along-requires c = (
 )
 
 pub returns-clause-found : goal.returns-clause-found
-returns-clause-found c =
-    each_some _ _ c.find_along.result
+returns-clause-found c = each_some _ _ c.find_along.result
     (λ s f start begun. f start (reached (goal.at.returns-clause-found c).After-next_entry start begun))
     c.find_along.ensures.found
 
 pub returns-clause-passed : goal.returns-clause-passed
-returns-clause-passed c =
-    λ e start begun. c.find_along.ensures.passed e start
+returns-clause-passed c = λ e start begun. c.find_along.ensures.passed e start
     (reached (goal.at.returns-clause-passed c).After-next_entry start begun)

@@ -52,8 +52,7 @@ pub find_along-requires : goal.find_along-requires
 find_along-requires c = (_, reached (goal.at.find_along-requires c).After-first_entry)
 
 pub returns-then-index-hash-clause-found : goal.returns-then-index-hash-clause-found
-returns-then-index-hash-clause-found c =
-    each_some _ _ c.find_along.result
+returns-then-index-hash-clause-found c = each_some _ _ c.find_along.result
     (λ s f. f _ (reached (goal.at.returns-then-index-hash-clause-found c).After-first_entry))
     c.find_along.ensures.found
 

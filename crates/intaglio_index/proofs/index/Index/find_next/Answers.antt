@@ -7,8 +7,7 @@ use Rattle.intaglio_index.proofs.index.Index.find_next.Goals.{After-next_entry}
 
 own_hash : (c : After-next_entry) (b hash : ℕ) (before behind : List (ℕ × ℕ)) →
     chain c.args.self.now b ≡ before ++ (c.args.symbol, hash) ∷ behind → c.index-hash.result.now ≡ hash
-own_hash c b hash before behind split =
-    sym (hash_read c.args.self.now.hashes c.args.symbol _ _ c.requires
+own_hash c b hash before behind split = sym (hash_read c.args.self.now.hashes c.args.symbol _ _ c.requires
     (rw (← c.self.view_is) c.index-hash.ensures) c.id.ensures)
     ∙ (entry_placed _ b c.args.symbol hash before behind split).1
 

@@ -45,8 +45,7 @@ symbol-second-requires-clause-number c =
     omega (arith, second_within _ _ _ _ (occupied all c.if-index-eq0.false), numbered c.self.view_is c.self.invariant)
 
 pub next_entry-requires : goal.next_entry-requires
-next_entry-requires c =
-    rw c.symbol-second.ensures
+next_entry-requires c = rw c.symbol-second.ensures
     (second_within _ _ _ _ (occupied (goal.at.next_entry-requires c).After-index c.if-index-eq0.false))
 
 pub last_below-requires-2 : goal.last_below-requires-2

@@ -6,8 +6,7 @@ use Rattle.intaglio_index.proofs.index.modulus.Modulus.word.Goals as goal
 pub overflow_add-result : goal.overflow_add-result
 overflow_add-result c =
     rw (c.high.ensures, c.from.ensures, c.id.ensures) record {
-      fits =
-          word_fits c.args.hash c.args.symbol (c.args.self.mask + 1) c.requires.made.power
+      fits = word_fits c.args.hash c.args.symbol (c.args.self.mask + 1) c.requires.made.power
           (omega (arith, c.requires.made.fits)) c.ranges.hash.fits c.requires.below;
     }
 
