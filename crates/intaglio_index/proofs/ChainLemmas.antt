@@ -154,7 +154,7 @@ chain-permutation count b hs =
 places-above : (count b at : ℕ) (hs : List ℕ) → AllByRecursion (λ s. at ≤ s) (places_from count b at hs)
 places-above count b at [] = tt
 places-above count b at (h ∷ hs) =
-    let rest = Each-weaker _ _ _ (places-above count b (at + 1) hs) (λ s l. omega arith) in
+    let rest = Each-weaker _ (λ s. at ≤ s) _ (places-above count b (at + 1) hs) (λ s l. omega arith) in
     cond_both (eqb (h % count) b) (at ∷ places_from count b (at + 1) hs) (places_from count b (at + 1) hs)
     (AllByRecursion (λ s. at ≤ s)) (λ t. (omega arith, rest)) (λ t. rest)
 

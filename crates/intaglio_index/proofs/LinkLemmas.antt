@@ -313,7 +313,7 @@ module _ {count : ℕ} {hashes : List ℕ} {links : List Symbol} (linked : IsLin
           ap (target_of e.0) (get_or-set_other (take i links) p e.0 (unwrap_or next p) 0 h.1
           ∙ get_or-take i links e.0 0 (rw left_size at h.0)) in
           let r = parted p pred in
-          let entry = (chain-entry _ _ _ _ _ _ r.2).0 in
+          let entry = (chain-entry count k (take i hashes) pred.front (p, pred.hash) r.0 r.2).0 in
           let others = beside count k (take i hashes) pred.front (p, pred.hash) r.0
           (rw r.2 at (chain-each count k (take i hashes))) (rw r.2 at (chain-distinct count k (take i hashes))) in
           let leads : first_symbol_of (left k) ≡ first_symbol_of (bucket k) = ap first_symbol_of r.2
