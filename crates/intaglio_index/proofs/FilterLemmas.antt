@@ -2,10 +2,9 @@
 use Rattle.std.proofs.lemmas.Grind.{common_steps}
 use Rattle.std.proofs.Common.{◌≡◌, ◌≢◌, ℕ, ◌<◌, ◌/◌, ◌%◌, ◌^◌, List, [], ◌∷◌, ◌++◌, length, get_or, set, take, ◌∙◌, arith, ap}
 use Rattle.std.proofs.lemmas.List.{get_or-set_same, get_or-set_other, get_or_default, length-set}
-use Rattle.std.specs.Int.{bit_at}
 use Rattle.std.proofs.lemmas.Nat.Bits.{bit_at-zero}
 use Rattle.std.proofs.lemmas.List.Elements.{recursion_from_All, All-from_recursion}
-use Rattle.intaglio_index.specs.Placed.{chain_from, symbols_of}
+use Rattle.intaglio_index.specs.Placed.{chain_from}
 use Rattle.intaglio_index.specs.Filter.{IsMarked, IsFiltered}
 use Rattle.intaglio_index.proofs.ChainLemmas.{Each-weaker, Each-append, chain-complete}
 
@@ -22,8 +21,8 @@ filtered-push filters count hashes hash mark filtered within marked kept =
     IsMarked (get_or (set filters b mark) (other % count) 0) other = grind (arith, common_steps) in
     record {
       size = length-set filters b mark ∙ filtered.size;
-      marks = Each-append (λ other. IsMarked (get_or (set filters b mark) (other % count) 0) other) hashes
-          (hash ∷ []) (Each-weaker _ _ hashes filtered.marks stays) (rw here marked, tt);
+      marks = Each-append _ hashes (hash ∷ []) (Each-weaker _ _ hashes filtered.marks stays)
+          (rw here marked, tt);
     }
 
 -- fewer hashes
@@ -36,20 +35,15 @@ pub filtered-vacated : (filters : List ℕ) (count : ℕ) (hashes : List ℕ) (k
     IsFiltered filters count hashes → chain_from count k 0 [] hashes ≡ [] →
     IsFiltered (set filters k 0) count hashes
 filtered-vacated filters count hashes k filtered none =
-    let P : ℕ → Type 0 = λ hash. IsMarked (get_or (set filters k 0) (hash % count) 0) hash in
-    let marked =
-    All-from_recursion (λ hash. IsMarked (get_or filters (hash % count) 0) hash) hashes filtered.marks in
+    let marked = All-from_recursion _ hashes filtered.marks in
     record {
       size = length-set filters k 0 ∙ filtered.size;
-      marks = recursion_from_All P hashes (λ i d l.
-          (let other : get_or hashes i d % count ≢ k = λ e. (let found =
-          chain-complete count k hashes i l (ap (λ n. n % count) (get_or_default hashes i 0 d l) ∙ e) in
-          let within : found.0 < length (symbols_of (chain_from count k 0 [] hashes)) = found.1 in
-          absurd (omega (arith, rw none at within))) in
+      marks = recursion_from_All _ hashes (λ i d l. (let other : get_or hashes i d % count ≢ k = λ e.
+          (let found = rw none at (chain-complete count k hashes i l
+          (ap (λ n. n % count) (get_or_default hashes i 0 d l) ∙ e)) in absurd (omega (arith, found.1))) in
           rw (get_or-set_other filters k (get_or hashes i d % count) 0 0 other) (marked i d l)));
     }
 
 -- a filter with a bit is not 0
 pub marked-some : (filter hash : ℕ) → IsMarked filter hash → filter ≡ 0 → ⊥
-marked-some filter hash m none = (let zero_bit : bit_at 0 (hash / 2 ^ 61) ≡ 0 = bit_at-zero (hash / 2 ^ 61) in
-    let one : bit_at 0 (hash / 2 ^ 61) ≡ 1 = rw none at m in omega arith)
+marked-some filter hash m none = omega (arith, bit_at-zero (hash / 2 ^ 61), rw none at m)

@@ -27,7 +27,7 @@ absent_on v hash none = recursion_from_All (λ placed. placed ≢ hash) v.hashes
     let found = chain-complete v.count (hash % v.count) v.hashes i l (rw at refl) in
     let parts = entry-split (chain_from v.count (hash % v.count) 0 [] v.hashes) i found in
     let entry = (chain-entry _ _ _ _ _ _ parts.3).0 in
-    let other = (Each-right (λ (x : ℕ × ℕ). x.1 ≢ hash) parts.0 (parts.1 ∷ parts.2) (rw parts.3 at none)).0 in
+    let other = (Each-right _ parts.0 (parts.1 ∷ parts.2) (rw parts.3 at none)).0 in
     other (sym (entry.1 0) ∙ ap (λ s. get_or v.hashes s 0) parts.4 ∙ at)))
 
 -- the steps of a front, one for each entry and one more, with another one are those of a front longer by one
@@ -114,7 +114,7 @@ module _ (h : ℕ) (path : List (ℕ × ℕ)) (old now : List Event) where
       let behind = others candidate at.walk.rest at.walk.next
       (order_right at.walk.front at.walk.rest (rw at.walk.split at order)) m in
       let front = Each-weaker _ _ at.walk.front at.walk.smaller (λ e l q. omega arith) in
-      rw at.walk.split (Each-append (λ (e : ℕ × ℕ). e.1 ≢ h) at.walk.front at.walk.rest front behind)
+      rw at.walk.split (Each-append _ at.walk.front at.walk.rest front behind)
 
 -- if P implies Q and holds of a symbol that may be there, so does Q
 pub each_some : (P Q : ℕ → Type 0) (o : Option ℕ) → ((s : ℕ) → P s → Q s) → IfSome o P → IfSome o Q
