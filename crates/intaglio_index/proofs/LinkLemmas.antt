@@ -5,7 +5,7 @@ use Rattle.std.specs.Option.{option_map}
 use Rattle.std.specs.List.{AllByRecursion, IsDistinct}
 use Rattle.std.proofs.lemmas.Bool.{eqb-false, eq-eqb, ne_eqb}
 use Rattle.std.proofs.lemmas.Bool.Decides.{eqb_tells}
-use Rattle.std.proofs.lemmas.List.{get_or-set_same, get_or-set_other, get_or_append_left, get_or_push, get_or-take, length-set, length-take-le}
+use Rattle.std.proofs.lemmas.List.{nil_from_length, get_or-set_same, get_or-set_other, get_or_append_left, get_or_push, get_or-take, length-set, length-take-le}
 use Rattle.intaglio_symbol.specs.declared.symbol.Symbol.{Symbol}
 use Rattle.intaglio_index.specs.Placed.{chain_from, head_of, first_symbol_of, symbols_of, BeginsAtOrAbove, IsPredecessor, IsEntry, insert_sorted}
 use Rattle.intaglio_index.specs.Links.{IsPath, IsThread, IsLinked, entry_of, target_of, next_of}
@@ -117,15 +117,10 @@ path_within P next start n [] a f h t e = (let never : Some t ≡ None = sym e �
 path_within P next start n (x ∷ es) a f h t e =
     (let same : Some t ≡ Some x.0 = sym e ∙ h.0 in let q : t ≡ x.0 = cc in omega (arith, q, f x a.0))
 
--- a list of at most 0 hashes is empty
-none_left : (hashes : List ℕ) → length hashes ≤ 0 → hashes ≡ []
-none_left [] l = refl
-none_left (h ∷ hs) l = absurd (omega arith)
-
 module _ {count : ℕ} {hashes : List ℕ} {links : List Symbol} (linked : IsLinked count hashes links) where
   -- where there are no buckets nothing is placed
   pub no_buckets : count ≡ 0 → hashes ≡ []
-  no_buckets none = none_left hashes (omega (arith, linked.few))
+  no_buckets none = nil_from_length hashes (omega (arith, linked.few))
 
   abbrev bucket : ℕ → List (ℕ × ℕ)
   bucket b = chain_from count b 0 [] hashes

@@ -62,19 +62,15 @@ returns-then-index-hash-clause-passed c = grind (arith, common_steps, reached)
 pub returns-then-word-head-clause-found : goal.returns-then-word-head-clause-found
 returns-then-word-head-clause-found c =
     let all = (goal.at.returns-then-word-head-clause-found c).After-agrees in
-    let hash =
-    hash_read c.args.self.now.hashes (c.matching_word-word.result % (c.self.inside.modulus.mask + 1)) _ _
-    (word_within (read all)) (rw (← c.self.view_is) c.index-2.ensures) (c.id.ensures
-    ∙ c.symbol-symbol.ensures) ∙ c.if-index-hash.false in
+    let hash = hash_read c.args.self.now.hashes _ _ _ (word_within (read all))
+    (rw (← c.self.view_is) c.index-2.ensures) (c.id.ensures ∙ c.symbol-symbol.ensures) ∙ c.if-index-hash.false in
     rw c.symbol-symbol.ensures (word_first (read all) (c.agrees.ensures.0 c.if-not-agrees.false)
     (inl hash) _ _ c.if-word-head.true c.step.ensures)
 
 pub returns-clause-found : goal.returns-clause-found
 returns-clause-found c =
     let all = (goal.at.returns-clause-found c).After-agrees in
-    let hash =
-    hash_read c.args.self.now.hashes (c.matching_word-word.result % (c.self.inside.modulus.mask + 1)) _ _
-    (word_within (read all)) (rw (← c.self.view_is) c.index-2.ensures) (c.id.ensures
-    ∙ c.symbol-symbol.ensures) ∙ c.if-index-hash.false in
+    let hash = hash_read c.args.self.now.hashes _ _ _ (word_within (read all))
+    (rw (← c.self.view_is) c.index-2.ensures) (c.id.ensures ∙ c.symbol-symbol.ensures) ∙ c.if-index-hash.false in
     rw c.symbol-symbol.ensures (word_second (read all) (c.agrees.ensures.0 c.if-not-agrees.false)
     (inl hash) _ _ c.if-word-head.false (two_steps _ _ _ c.step.ensures c.step-2.ensures))

@@ -40,8 +40,7 @@ invariant_of-self c =
     (holds_pushed c.self.invariant c.args.hash _ _ _ _ (within all) (rw (at_bucket all) at c.index.ensures)
     c.marked.ensures.set c.marked.ensures.kept
     (c.with_first.ensures _ _ _ _ old alone begins (c.word-word.ensures.word.0, c.word-word.ensures.word.1 ∙ number_is all))
-    (place_first c.self.invariant.linked c.args.hash c.args.symbol (number_is all) c.word-word.ensures.number
-    (free all) _ leads begins)))
+    (place_first c.self.invariant.linked _ _ (number_is all) c.word-word.ensures.number (free all) _ leads begins)))
 
 pub next-requires : goal.next-requires
 next-requires c = grind (arith, common_steps, below)
