@@ -99,10 +99,8 @@ module _ (h : ℕ) (path : List (ℕ × ℕ)) (old now : List Event) where
       MatchOption candidate (Unit {0}) (λ e. h < e.1) → AllByRecursion (λ (e : ℕ × ℕ). e.1 ≢ h) rest
   others candidate [] next order m = tt
   others candidate (x ∷ xs) next order m =
-      let above : h < x.1 = rw next at m in (
-        (λ q. omega arith),
-        Each-weaker _ _ xs order.0 (λ e l q. omega arith),
-      )
+      let above : h < x.1 = rw next at m in
+      ((λ q. omega arith), Each-weaker _ _ xs order.0 (λ e l q. omega arith))
 
   order_right : (front rest : List (ℕ × ℕ)) → InOrder (front ++ rest) → InOrder rest
   order_right [] rest o = o
