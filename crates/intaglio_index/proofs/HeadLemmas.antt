@@ -252,7 +252,8 @@ module _ {m : Modulus} {heads : List Head} {filters hashes : List ℕ} {links : 
         Holds m (set heads (hash % length heads) head) filters (take i hashes) after
     holds_read after head first linked leads is =
         let same = set-get_or filters (hash % length heads) 0 in
-        rw same at (holds_changed (take i hashes) after (hash % length heads) head (get_or filters (hash % length heads) 0) within
+        rw same at (holds_changed (take i hashes) after (hash % length heads) head
+        (get_or filters (hash % length heads) 0) within
         (others_stay holds.linked hash i last read) (neither marked (led_some _ _ leads)) is linked
         (rw same (filtered-take _ _ _ i holds.filtered)))
 

@@ -289,12 +289,16 @@ module _ {count : ℕ} {hashes : List ℕ} {links : List Symbol} (linked : IsLin
       cut_first begins =
           let k : ℕ = hash % count in
           let same : (b : ℕ) → AllByRecursion (λ (e : ℕ × ℕ). next_of (take i links) e.0 ≡ next_of links e.0) (left b) =
-          λ b. Each-weaker _ _ _ (chain-each count b (take i hashes)) (λ e h. ap (target_of e.0) (get_or-take i links e.0 0 (rw left_size at h.0))) in
+          λ b. Each-weaker _ _ _ (chain-each count b (take i hashes)) (λ e h. ap (target_of e.0)
+          (get_or-take i links e.0 0 (rw left_size at h.0))) in
           let r = unput i hash (left k) [] (bucket k) (sym grows) tt begins in
           let path = path_kept (next_of links) (next_of (take i links)) next (left k) (same k)
           (rw (is_next, r.2) (behind k [] (i, hash) r.0 r.1)) in
-          let leads = path_leader (next_of (take i links)) next (left k) path in
-          (left_linked (take i links) (length-take-le i links (omega (arith, linked.paired))) (λ b n. same b) (rw leads at path), leads)
+          let leads = path_leader (next_of (take i links)) next (left k) path in (
+            left_linked (take i links) (length-take-le i links (omega (arith, linked.paired)))
+                (λ b n. same b) (rw leads at path),
+            leads,
+          )
 
       -- where another stands in front of it, the bucket begins as before
       pub cut_behind : (p : ℕ) → IsPredecessor hash (bucket (hash % count)) p →
@@ -315,11 +319,14 @@ module _ {count : ℕ} {hashes : List ℕ} {links : List Symbol} (linked : IsLin
           ∙ leader_same pred.front (p, pred.hash) r.0 pred.behind ∙ ap first_symbol_of (sym pred.split) in
           let on = rw (← is_next) at (rw r.1 at (behind k pred.front (p, pred.hash) pred.behind pred.split)).1 in
           let at_p : next_of after p ≡ next =
-          ap (target_of p) (get_or-set_same (take i links) p (unwrap_or next p) 0 (omega (arith, predecessor_below p pred, size)))
+          ap (target_of p) (get_or-set_same (take i links) p (unwrap_or next p) 0
+          (omega (arith, predecessor_below p pred, size)))
           ∙ target_kept p next (begins_elsewhere (next_of links) next _ p r.0 others.1 on) in (
             left_linked after (length-set (take i links) p (unwrap_or next p) ∙ size)
                 (λ b n. Each-weaker _ _ _ (in_no_other count b k (take i hashes) p pred.hash entry n) same)
-                (rw (r.2, leader_same pred.front (p, pred.hash) r.0 pred.behind) (path_spliced (next_of links) (next_of after) _ pred.front (p, pred.hash) pred.behind r.0 (Each-weaker _ _ _ others.0 same)
+                (rw (r.2, leader_same pred.front (p, pred.hash) r.0 pred.behind)
+                (path_spliced (next_of links) (next_of after) _ pred.front (p, pred.hash) pred.behind r.0
+                (Each-weaker _ _ _ others.0 same)
                 (rw at_p (path_kept (next_of links) (next_of after) next _ (Each-weaker _ _ _ others.1 same) on))
                 (rw pred.split at (linked.paths k)))),
             leads,

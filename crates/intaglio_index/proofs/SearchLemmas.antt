@@ -137,7 +137,8 @@ module _ (v : Placed) (h size : ℕ) (head : Head) (some : 0 < size) where
   none_by_words e (f ∷ fs) split is first second (inl less) =
       let blocks = below_block size some h head.second less (λ q. second (sym q)) in
       let above : h < f.1 = block_below size some h f.1 (omega (arith, blocks, is.1.0)) in
-      let rest = Each-weaker _ (λ (x : ℕ × ℕ). x.1 ≢ h) fs (rw split at (chain-in_order v (h % v.count))).1.0 (λ x l q. omega arith) in
+      let rest = Each-weaker _ (λ (x : ℕ × ℕ). x.1 ≢ h) fs
+      (rw split at (chain-in_order v (h % v.count))).1.0 (λ x l q. omega arith) in
       (differs e head.first is.0 first, ((λ q. omega arith), rest))
 
   -- that the first two have smaller ones

@@ -8,7 +8,8 @@ use Rattle.intaglio_index.proofs.index.Index.find.Goals.{After-agrees}
 
 exact : (c : After-agrees) → c.args.self.now.count ≡ c.self.inside.modulus.mask + 1
 exact c =
-    count_is c.self.view_is c.self.invariant ∙ sym c.self.invariant.counted ∙ c.is_power_of_two.ensures.0 c.if-not-is_power_of_two.false
+    count_is c.self.view_is c.self.invariant ∙ sym c.self.invariant.counted
+    ∙ c.is_power_of_two.ensures.0 c.if-not-is_power_of_two.false
 
 read : (c : After-agrees) →
     IsRead c.args.self.now c.args.hash (c.self.inside.modulus.mask + 1) c.index-head.result.now

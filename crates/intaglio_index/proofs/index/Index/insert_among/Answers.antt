@@ -61,6 +61,7 @@ invariant_of-self-in-Some c =
     (holds_pushed c.self.invariant c.args.hash _ _ _ _ (within all) (rw (at_bucket all) at c.index.ensures)
     c.marked.ensures.set c.marked.ensures.kept
     (c.with_after.ensures _ _ _ _ old leads (chain-distinct (length c.self.inside.heads.items)
-    (c.args.hash % length c.self.inside.heads.items) c.self.inside.hashes.items) pred (c.word-word.ensures.word.0, c.word-word.ensures.word.1 ∙ number_is all))
+    (c.args.hash % length c.self.inside.heads.items) c.self.inside.hashes.items) pred
+    (c.word-word.ensures.word.0, c.word-word.ensures.word.1 ∙ number_is all))
     (place_behind c.self.invariant.linked c.args.hash c.args.symbol (number_is all) c.word-word.ensures.number
     (free all) _ _ (below all c.in-Some.last c.in-Some.ensures) next pred)))

@@ -8,7 +8,8 @@ use Rattle.intaglio_index.proofs.index.Index.predecessor.Goals.{After-index}
 
 exact : (c : After-index) → c.args.self.now.count ≡ c.self.inside.modulus.mask + 1
 exact c =
-    count_is c.self.view_is c.self.invariant ∙ sym c.self.invariant.counted ∙ c.is_power_of_two.ensures.0 c.if-not-is_power_of_two.false
+    count_is c.self.view_is c.self.invariant ∙ sym c.self.invariant.counted
+    ∙ c.is_power_of_two.ensures.0 c.if-not-is_power_of_two.false
 
 within : (c : After-index) → c.args.hash % c.args.self.now.count < c.args.self.now.count
 within c = rw c.requires.bucket at c.requires.within

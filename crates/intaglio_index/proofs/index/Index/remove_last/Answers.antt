@@ -57,12 +57,17 @@ occupied c =
     let count = count_is c.self.view_is c.self.invariant in
     let at = c.bucket-bucket.ensures
     ∙ ap (λ n. c.index-hash.result.now % n) (c.self.invariant.counted ∙ sym count) in
-    is_occupied_by c.self.view_is c.self.invariant _ _ (omega (arith, ap (λ (v : Placed). length v.hashes) c.self.view_is, c.requires, c.self.invariant.linked.few, count))
+    is_occupied_by c.self.view_is c.self.invariant _ _
+    (omega (arith, ap (λ (v : Placed). length v.hashes) c.self.view_is, c.requires, c.self.invariant.linked.few, count))
     (rw at at c.index.ensures) (λ none. never_behind _ _ _ none c.in-Some.ensures)
 
 pub symbol-first-requires-clause-number : goal.symbol-first-requires-clause-number
 symbol-first-requires-clause-number c =
-    omega (arith, first_within _ _ _ _ (occupied (goal.at.symbol-first-requires-clause-number c).After-index), numbered c.self.view_is c.self.invariant)
+    omega (
+      arith,
+      first_within _ _ _ _ (occupied (goal.at.symbol-first-requires-clause-number c).After-index),
+      numbered c.self.view_is c.self.invariant,
+    )
 
 pub index_mut-requires-in-Some : goal.index_mut-requires-in-Some
 unfolding chain
