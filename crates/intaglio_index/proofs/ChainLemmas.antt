@@ -9,17 +9,22 @@ use Rattle.std.proofs.lemmas.List.Elements.{All-from_recursion, Contains-append_
 use Rattle.std.proofs.lemmas.List.Kept.{AllPairs-cons}
 use Rattle.std.proofs.lemmas.List.Sorted.{IsPermutation-refl, IsPermutation-trans, IsPermutation-middle, IsPermutation-sym, IsPermutation-cons, IsPermutation-append_right, Contains-permutation}
 use Rattle.std.proofs.lemmas.Map.Keys.{IsDistinct-IsPermutation}
-use Rattle.intaglio_index.specs.Placed.{Placed, chain, chain_from, places_from, insert_sorted, symbols_of, AreSorted, BeginsAtOrAbove, IsPredecessor, IsEntry, IsBucket}
+use Rattle.intaglio_index.specs.Placed.{members, Placed, chain, chain_from, places_from, insert_sorted, symbols_of, AreSorted, BeginsAtOrAbove, IsPredecessor, IsEntry, IsBucket}
 
 -- the test of two numbers for equality is symmetric
 pub eqb-flips : (a b : ℕ) → eqb a b ≡ eqb b a
 eqb-flips a b = grind (arith, common_steps)
 
 -- if P implies Q and holds of each element of a list, so does Q
-pub Each-weaker : {X : Type 0} (P Q : X → Type 0) (xs : List X) → AllByRecursion P xs →
+pub Each-so : {X : Type 0} (P Q : X → Type 0) (xs : List X) → AllByRecursion P xs →
     ((x : X) → P x → Q x) → AllByRecursion Q xs
-Each-weaker P Q [] h f = tt
-Each-weaker P Q (x ∷ xs) h f = (f x h.0, Each-weaker P Q xs h.1 f)
+Each-so P Q [] h f = tt
+Each-so P Q (x ∷ xs) h f = (f x h.0, Each-so P Q xs h.1 f)
+
+-- the same with the implication first
+pub Each-weaker : {X : Type 0} (P Q : X → Type 0) → ((x : X) → P x → Q x) → (xs : List X) →
+    AllByRecursion P xs → AllByRecursion Q xs
+Each-weaker P Q f xs h = Each-so P Q xs h f
 
 -- what holds of each element of an append holds of each of the second list
 pub Each-right : {X : Type 0} (P : X → Type 0) (xs ys : List X) → AllByRecursion P (xs ++ ys) →
@@ -145,16 +150,16 @@ chain_from-permutation count b at met (h ∷ hs) =
     ]
 
 -- the symbols of a bucket's chain are its members, in some order
-chain-permutation : (count b : ℕ) (hs : List ℕ) →
+chain-places : (count b : ℕ) (hs : List ℕ) →
     IsPermutation (places_from count b 0 hs) (symbols_of (chain_from count b 0 [] hs))
-chain-permutation count b hs =
+chain-places count b hs =
     rw (append-nil (places_from count b 0 hs)) at (chain_from-permutation count b 0 [] hs)
 
 -- the places of a bucket are distinct
 places-above : (count b at : ℕ) (hs : List ℕ) → AllByRecursion (λ s. at ≤ s) (places_from count b at hs)
 places-above count b at [] = tt
 places-above count b at (h ∷ hs) =
-    let rest = Each-weaker _ (λ s. at ≤ s) _ (places-above count b (at + 1) hs) (λ s l. omega arith) in
+    let rest = Each-so _ (λ s. at ≤ s) _ (places-above count b (at + 1) hs) (λ s l. omega arith) in
     cond_both (eqb (h % count) b) (at ∷ places_from count b (at + 1) hs) (places_from count b (at + 1) hs)
     (AllByRecursion (λ s. at ≤ s)) (λ t. (omega arith, rest)) (λ t. rest)
 
@@ -165,14 +170,14 @@ places-distinct count b at [] = tt
 places-distinct count b at (h ∷ hs) =
     let rest = places-distinct count b (at + 1) hs in
     let apart : AllByRecursion (λ y. eqb at y ≡ false) (places_from count b (at + 1) hs) =
-    Each-weaker _ _ _ (places-above count b (at + 1) hs) (λ s l. ne_eqb at s (λ e. omega arith)) in
+    Each-so _ _ _ (places-above count b (at + 1) hs) (λ s l. ne_eqb at s (λ e. omega arith)) in
     cond_both (eqb (h % count) b) (at ∷ places_from count b (at + 1) hs) (places_from count b (at + 1) hs)
     (IsDistinct eqb) (λ t. (apart, rest)) (λ t. rest)
 
 -- no symbol occurs twice on a chain
 pub chain-distinct : (count b : ℕ) (hs : List ℕ) → IsDistinct eqb (symbols_of (chain_from count b 0 [] hs))
 chain-distinct count b hs =
-    IsDistinct-IsPermutation eqb eqb-flips _ _ (chain-permutation count b hs) (places-distinct count b 0 hs)
+    IsDistinct-IsPermutation eqb eqb-flips _ _ (chain-places count b hs) (places-distinct count b 0 hs)
 
 -- the hashes along a chain do not decrease
 abbrev pub InOrder : List (ℕ × ℕ) → Type 0
@@ -187,7 +192,7 @@ insert_sorted-in_order s h (e ∷ es) o =
       insert_sorted-each (λ f. e.1 ≤ f.1) s h es (omega (arith, ltb-true e.1 h is)) o.0,
       insert_sorted-in_order s h es o.1,
     )) (λ is. (let le : h ≤ e.1 = ltb-false e.1 h is in (
-      (le, Each-weaker _ _ es o.0 (λ f l. omega arith)),
+      (le, Each-so _ _ es o.0 (λ f l. omega arith)),
       o,
     )))
 
@@ -211,6 +216,17 @@ pub chain-in_order : (v : Placed) (b : ℕ) → InOrder (chain v b)
 unfolding chain
 chain-in_order v b = chain_from-in_order v.count b 0 [] v.hashes tt
 
+-- the symbols of a bucket's chain are its members, in some order
+pub chain-permutation : (v : Placed) (b : ℕ) → IsPermutation (members v b) (symbols_of (chain v b))
+unfolding chain
+chain-permutation v b = chain-places v.count b v.hashes
+
+-- behind an entry no hash is smaller
+pub InOrder-behind : (front : List (ℕ × ℕ)) (e : ℕ × ℕ) (behind : List (ℕ × ℕ)) →
+    InOrder (front ++ e ∷ behind) → AllByRecursion (λ (f : ℕ × ℕ). e.1 ≤ f.1) behind
+InOrder-behind [] e behind o = o.0
+InOrder-behind (x ∷ front) e behind o = InOrder-behind front e behind o.1
+
 -- each entry of a bucket's chain is a placed symbol of the bucket with its hash
 pub chain-entries : (v : Placed) (b : ℕ) → AllByRecursion (IsEntry v.count b v.hashes) (chain v b)
 unfolding chain
@@ -220,7 +236,7 @@ chain-entries v b = chain-each v.count b v.hashes
 pub chain-bucket : (v : Placed) (h : ℕ) → IsBucket v h
 unfolding chain
 chain-bucket v h = record {
-  members = chain-permutation v.count (h % v.count) v.hashes;
+  members = chain-places v.count (h % v.count) v.hashes;
   sorted = sorted-from-order _ (chain-in_order v (h % v.count));
   hashes = chain-each v.count (h % v.count) v.hashes;
 }
@@ -242,7 +258,7 @@ pub chain-complete : (count b : ℕ) (hs : List ℕ) (i : ℕ) → i < length hs
     Contains (symbols_of (chain_from count b 0 [] hs)) i
 chain-complete count b hs i l e =
     let z : 0 + i ≡ i = omega arith in
-    Contains-permutation _ _ i (chain-permutation count b hs) (rw z at (places-complete count b 0 hs i 0 l e))
+    Contains-permutation _ _ i (chain-places count b hs) (rw z at (places-complete count b 0 hs i 0 l e))
 
 -- a list of entries that has a symbol is split at an entry with it
 pub entry-split : (es : List (ℕ × ℕ)) (s : ℕ) → Contains (symbols_of es) s → (before : List (ℕ × ℕ))

@@ -6,7 +6,7 @@ use Rattle.std.proofs.lemmas.Nat.Bits.{bit_at-zero}
 use Rattle.std.proofs.lemmas.List.Elements.{recursion_from_All, All-from_recursion}
 use Rattle.intaglio_index.specs.Placed.{chain_from}
 use Rattle.intaglio_index.specs.Filter.{IsMarked, IsFiltered}
-use Rattle.intaglio_index.proofs.ChainLemmas.{Each-weaker, Each-append, chain-complete}
+use Rattle.intaglio_index.proofs.ChainLemmas.{Each-so, Each-append, chain-complete}
 
 -- one hash more, whose bit is set
 pub filtered-push : (filters : List ℕ) (count : ℕ) (hashes : List ℕ) (hash mark : ℕ) →
@@ -21,7 +21,7 @@ filtered-push filters count hashes hash mark filtered within marked kept =
     IsMarked (get_or (set filters b mark) (other % count) 0) other = grind (arith, common_steps) in
     record {
       size = length-set filters b mark ∙ filtered.size;
-      marks = Each-append _ hashes (hash ∷ []) (Each-weaker _ _ hashes filtered.marks stays)
+      marks = Each-append _ hashes (hash ∷ []) (Each-so _ _ hashes filtered.marks stays)
           (rw here marked, tt);
     }
 

@@ -9,7 +9,7 @@ use Rattle.std.proofs.lemmas.List.{nil_from_length, get_or-set_same, get_or-set_
 use Rattle.intaglio_symbol.specs.declared.symbol.Symbol.{Symbol}
 use Rattle.intaglio_index.specs.Placed.{chain_from, head_of, first_symbol_of, symbols_of, BeginsAtOrAbove, IsPredecessor, IsEntry, insert_sorted}
 use Rattle.intaglio_index.specs.Links.{IsPath, IsThread, IsLinked, entry_of, target_of, next_of}
-use Rattle.intaglio_index.proofs.ChainLemmas.{chain-grows, chain-stays, chain-each, chain-entry, symbol_at, chain-distinct, chain-complete, entry-split, unput, insert_sorted-between, put-behind, Each-weaker}
+use Rattle.intaglio_index.proofs.ChainLemmas.{chain-grows, chain-stays, chain-each, chain-entry, symbol_at, chain-distinct, chain-complete, entry-split, unput, insert_sorted-between, put-behind, Each-so}
 
 -- what is kept of a link: the symbol itself where there is no next one
 target_kept : (s : ℕ) (next : Option Symbol) → (next ≡ Some s → ⊥) → target_of s (unwrap_or next s) ≡ next
@@ -54,7 +54,7 @@ path_behind next start (x ∷ front) e behind h = path_behind next (next x.0) fr
 in_no_other : (count b k : ℕ) (hashes : List ℕ) (p h : ℕ) → IsEntry count k hashes (p, h) → b ≢ k →
     AllByRecursion (IsOther (length hashes) p) (chain_from count b 0 [] hashes)
 in_no_other count b k hashes p h entry other =
-    Each-weaker _ _ _ (chain-each count b hashes) (λ x is. (
+    Each-so _ _ _ (chain-each count b hashes) (λ x is. (
       is.0,
       λ q. other (sym is.2 ∙ ap (λ v. v % count) (sym (is.1 0) ∙ ap (λ s. get_or hashes s 0) q ∙ entry.1 0)
           ∙ entry.2),
@@ -140,7 +140,7 @@ module _ {count : ℕ} {hashes : List ℕ} {links : List Symbol} (linked : IsLin
       IsThread hashes links (Some first) (bucket b)
   thread_of b first leads = rw leads record {
     path = linked.paths b;
-    read = Each-weaker _ _ _ (chain-each count b hashes) (λ e h. (h.0, h.1 0));
+    read = Each-so _ _ _ (chain-each count b hashes) (λ e h. (h.0, h.1 0));
     paired = linked.paired;
   }
 
@@ -202,7 +202,7 @@ module _ {count : ℕ} {hashes : List ℕ} {links : List Symbol} (linked : IsLin
         ap (target_of symbol) (get_or_push links link 0 symbol number_is)
         ∙ target_kept symbol next other ∙ is in
         let kept : (b : ℕ) → AllByRecursion (λ (e : ℕ × ℕ). next_of more e.0 ≡ next_of links e.0) (bucket b) =
-        λ b. Each-weaker _ _ _ (chain-each count b hashes) (λ e h. ap (target_of e.0)
+        λ b. Each-so _ _ _ (chain-each count b hashes) (λ e h. ap (target_of e.0)
         (get_or_append_left links (link ∷ []) 0 e.0 (omega (arith, h.0, linked.paired)))) in
         placed_linked more (length-append links (link ∷ [])) (λ b n. kept b)
         (rw (insert_sorted-between symbol hash [] (bucket k) tt begins)
@@ -234,10 +234,10 @@ module _ {count : ℕ} {hashes : List ℕ} {links : List Symbol} (linked : IsLin
         let others = beside count k hashes pred.front (p, pred.hash) pred.behind
         (rw pred.split at (chain-each count k hashes)) (rw pred.split at (chain-distinct count k hashes)) in
         placed_linked all (length-set more p symbol ∙ size)
-        (λ b n. Each-weaker _ _ _ (in_no_other count b k hashes p pred.hash entry n) same)
+        (λ b n. Each-so _ _ _ (in_no_other count b k hashes p pred.hash entry n) same)
         (rw (put-behind symbol hash (bucket k) p pred, leader_same pred.front (p, pred.hash) _ pred.behind)
-        (path_spliced (next_of links) _ _ pred.front _ pred.behind _ (Each-weaker _ _ _ others.0 same)
-        (at_p, rw at_n (path_kept _ _ _ _ (Each-weaker _ _ _ others.1 same) (behind k _ _ _ pred.split)))
+        (path_spliced (next_of links) _ _ pred.front _ pred.behind _ (Each-so _ _ _ others.0 same)
+        (at_p, rw at_n (path_kept _ _ _ _ (Each-so _ _ _ others.1 same) (behind k _ _ _ pred.split)))
         (rw pred.split at (linked.paths k))))
 
   -- the last symbol is taken out of its bucket
@@ -289,7 +289,7 @@ module _ {count : ℕ} {hashes : List ℕ} {links : List Symbol} (linked : IsLin
       cut_first begins =
           let k : ℕ = hash % count in
           let same : (b : ℕ) → AllByRecursion (λ (e : ℕ × ℕ). next_of (take i links) e.0 ≡ next_of links e.0) (left b) =
-          λ b. Each-weaker _ _ _ (chain-each count b (take i hashes)) (λ e h. ap (target_of e.0)
+          λ b. Each-so _ _ _ (chain-each count b (take i hashes)) (λ e h. ap (target_of e.0)
           (get_or-take i links e.0 0 (rw left_size at h.0))) in
           let r = unput i hash (left k) [] (bucket k) (sym grows) tt begins in
           let path = path_kept (next_of links) (next_of (take i links)) next (left k) (same k)
@@ -323,11 +323,11 @@ module _ {count : ℕ} {hashes : List ℕ} {links : List Symbol} (linked : IsLin
           (omega (arith, predecessor_below p pred, size)))
           ∙ target_kept p next (begins_elsewhere (next_of links) next _ p r.0 others.1 on) in (
             left_linked after (length-set (take i links) p (unwrap_or next p) ∙ size)
-                (λ b n. Each-weaker _ _ _ (in_no_other count b k (take i hashes) p pred.hash entry n) same)
+                (λ b n. Each-so _ _ _ (in_no_other count b k (take i hashes) p pred.hash entry n) same)
                 (rw (r.2, leader_same pred.front (p, pred.hash) r.0 pred.behind)
                 (path_spliced (next_of links) (next_of after) _ pred.front (p, pred.hash) pred.behind r.0
-                (Each-weaker _ _ _ others.0 same)
-                (rw at_p (path_kept (next_of links) (next_of after) next _ (Each-weaker _ _ _ others.1 same) on))
+                (Each-so _ _ _ others.0 same)
+                (rw at_p (path_kept (next_of links) (next_of after) next _ (Each-so _ _ _ others.1 same) on))
                 (rw pred.split at (linked.paths k)))),
             leads,
           )

@@ -12,7 +12,7 @@ use Rattle.intaglio_index.specs.declared.index.head.Head.{Head}
 use Rattle.intaglio_index.specs.Placed.{Placed, chain, chain_from, head_of, first_symbol_with, IsEntry, BeginsAtOrAbove, IsPredecessor}
 use Rattle.intaglio_index.specs.Found.{IsFound, IsPassed, IsBehind, IsReached, IsAt}
 use Rattle.intaglio_index.specs.Heads.{IsHead, IsWord}
-use Rattle.intaglio_index.proofs.ChainLemmas.{Each-weaker, Each-right, Each-append, chain-complete, chain-entry, chain-entries, chain-in_order, entry-split, InOrder}
+use Rattle.intaglio_index.proofs.ChainLemmas.{Each-so, Each-right, Each-append, chain-complete, chain-entry, chain-entries, chain-in_order, entry-split, InOrder}
 use Rattle.intaglio_index.proofs.HeadLemmas.{IsOccupied, first_within, second_within}
 use Rattle.intaglio_index.proofs.Words.{same_number, high_below, high_above, block_below, below_block, word_same}
 use Rattle.intaglio_index.proofs.WalkLemmas.{standing, moves, distinct}
@@ -29,6 +29,10 @@ absent_on v hash none = recursion_from_All (λ placed. placed ≢ hash) v.hashes
     let entry = (chain-entry _ _ _ _ _ _ parts.3).0 in
     let other = (Each-right _ parts.0 (parts.1 ∷ parts.2) (rw parts.3 at none)).0 in
     other (sym (entry.1 0) ∙ ap (λ s. get_or v.hashes s 0) parts.4 ∙ at)))
+
+-- an entry with this symbol and this hash is the pair of them
+pub entry_is : (e : ℕ × ℕ) (s h : ℕ) → e.0 ≡ s → e.1 ≡ h → e ≡ (s, h)
+entry_is e s h p q = rw (← p, ← q) refl
 
 -- the steps of a front, one for each entry and one more, with another one are those of a front longer by one
 steps_push : (old now new : List Event) (front : List (ℕ × ℕ)) (e : ℕ × ℕ) →
@@ -100,7 +104,7 @@ module _ (h : ℕ) (path : List (ℕ × ℕ)) (old now : List Event) where
   others candidate [] next order m = tt
   others candidate (x ∷ xs) next order m =
       let above : h < x.1 = rw next at m in
-      ((λ q. omega arith), Each-weaker _ _ xs order.0 (λ e l q. omega arith))
+      ((λ q. omega arith), Each-so _ _ xs order.0 (λ e l q. omega arith))
 
   order_right : (front rest : List (ℕ × ℕ)) → InOrder (front ++ rest) → InOrder rest
   order_right [] rest o = o
@@ -111,7 +115,7 @@ module _ (h : ℕ) (path : List (ℕ × ℕ)) (old now : List Event) where
   ends candidate at order m =
       let behind = others candidate at.walk.rest at.walk.next
       (order_right at.walk.front at.walk.rest (rw at.walk.split at order)) m in
-      let front = Each-weaker _ _ at.walk.front at.walk.smaller (λ e l q. omega arith) in
+      let front = Each-so _ _ at.walk.front at.walk.smaller (λ e l q. omega arith) in
       rw at.walk.split (Each-append _ at.walk.front at.walk.rest front behind)
 
 -- if P implies Q and holds of a symbol that may be there, so does Q
@@ -137,7 +141,7 @@ module _ (v : Placed) (h size : ℕ) (head : Head) (some : 0 < size) where
   none_by_words e (f ∷ fs) split is first second (inl less) =
       let blocks = below_block size some h head.second less (λ q. second (sym q)) in
       let above : h < f.1 = block_below size some h f.1 (omega (arith, blocks, is.1.0)) in
-      let rest = Each-weaker _ (λ (x : ℕ × ℕ). x.1 ≢ h) fs
+      let rest = Each-so _ (λ (x : ℕ × ℕ). x.1 ≢ h) fs
       (rw split at (chain-in_order v (h % v.count))).1.0 (λ x l q. omega arith) in
       (differs e head.first is.0 first, ((λ q. omega arith), rest))
 
