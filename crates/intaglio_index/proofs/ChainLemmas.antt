@@ -1,15 +1,12 @@
 -- The order of a bucket, by the hashes alone.
-use Rattle.std.proofs.lemmas.Grind.{common_steps}
+use Rattle.intaglio_index.proofs.Common.{common_steps, Contains, AllByRecursion, cond_both, eqb-true, ltb-true, ltb-false, le-ltb, lt-ltb, eq-eqb, ne_eqb, get_or_at, append-nil, All-from_recursion, Contains-append_right, members, Placed, chain_from, places_from, insert_sorted, symbols_of, AreSorted, BeginsAtOrAbove, IsPredecessor, IsEntry, IsBucket}
 use Rattle.std.proofs.Common.{◌≡◌, ◌≢◌, ℕ, zero, suc, ◌+◌, ◌<◌, ◌≤◌, ◌%◌, Bool, true, false, cond, List, [], ◌∷◌, ◌++◌, length, get_or, refl, sym, ap, ◌∙◌, arith, eqb, ltb, length-append, append_assoc}
-use Rattle.std.specs.List.{Contains, AllByRecursion, IsDistinct}
+use Rattle.std.specs.List.{IsDistinct}
 use Rattle.std.specs.List.Sorted.{IsPermutation}
-use Rattle.std.proofs.lemmas.Bool.{cond_both, eqb-true, ltb-true, ltb-false, le-ltb, lt-ltb, eq-eqb, ne_eqb}
-use Rattle.std.proofs.lemmas.List.{get_or_at, append-nil}
-use Rattle.std.proofs.lemmas.List.Elements.{All-from_recursion, Contains-append_right}
 use Rattle.std.proofs.lemmas.List.Kept.{AllPairs-cons}
 use Rattle.std.proofs.lemmas.List.Sorted.{IsPermutation-refl, IsPermutation-trans, IsPermutation-middle, IsPermutation-sym, IsPermutation-cons, IsPermutation-append_right, Contains-permutation}
 use Rattle.std.proofs.lemmas.Map.Keys.{IsDistinct-IsPermutation}
-use Rattle.intaglio_index.specs.Placed.{members, Placed, chain, chain_from, places_from, insert_sorted, symbols_of, AreSorted, BeginsAtOrAbove, IsPredecessor, IsEntry, IsBucket}
+use Rattle.intaglio_index.specs.Placed.{chain}
 
 -- the test of two numbers for equality is symmetric
 pub eqb-flips : (a b : ℕ) → eqb a b ≡ eqb b a

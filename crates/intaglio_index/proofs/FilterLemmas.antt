@@ -1,11 +1,6 @@
 -- What filters tell of the hashes that were placed.
-use Rattle.std.proofs.lemmas.Grind.{common_steps}
+use Rattle.intaglio_index.proofs.Common.{common_steps, get_or-set_same, get_or-set_other, get_or_default, length-set, bit_at-zero, recursion_from_All, All-from_recursion, chain_from, IsMarked, IsFiltered}
 use Rattle.std.proofs.Common.{◌≡◌, ◌≢◌, ℕ, ◌<◌, ◌/◌, ◌%◌, ◌^◌, List, [], ◌∷◌, ◌++◌, length, get_or, set, take, ◌∙◌, arith, ap}
-use Rattle.std.proofs.lemmas.List.{get_or-set_same, get_or-set_other, get_or_default, length-set}
-use Rattle.std.proofs.lemmas.Nat.Bits.{bit_at-zero}
-use Rattle.std.proofs.lemmas.List.Elements.{recursion_from_All, All-from_recursion}
-use Rattle.intaglio_index.specs.Placed.{chain_from}
-use Rattle.intaglio_index.specs.Filter.{IsMarked, IsFiltered}
 use Rattle.intaglio_index.proofs.ChainLemmas.{Each-so, Each-append, chain-complete}
 
 -- one hash more, whose bit is set

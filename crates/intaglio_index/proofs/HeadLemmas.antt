@@ -1,21 +1,12 @@
 -- What the words of a bucket's head tell, and how they change.
 use Rattle.std.proofs.Common.{◌≡◌, ◌≢◌, ◌↔◌, ℕ, ◌+◌, ◌^◌, ◌%◌, ◌<◌, ◌≤◌, take, List, [], ◌∷◌, ◌++◌, length, get_or, set, Option, Some, None, Bool, true, false, not, refl, sym, ap, ◌∙◌, arith, eqb, inl, inr, length-append}
-use Rattle.std.specs.List.{AllByRecursion, IsDistinct}
-use Rattle.std.specs.Option.{is_some}
-use Rattle.std.proofs.lemmas.Bool.{eqb-false, true≢false, false≢true}
-use Rattle.std.proofs.lemmas.Bool.Decides.{eqb_tells}
-use Rattle.std.proofs.lemmas.List.{get_or-set_same, get_or-set_other, length-set, set-get_or, get_or_read}
-use Rattle.intaglio_index.specs.declared.index.head.Head.{Head}
-use Rattle.intaglio_symbol.specs.declared.symbol.Symbol.{Symbol}
+use Rattle.intaglio_index.proofs.Common.{AllByRecursion, is_some, eqb-false, true≢false, false≢true, eqb_tells, get_or-set_same, get_or-set_other, length-set, set-get_or, get_or_read, Head, Symbol, IsFiltered, IsMarked, IsThread, IsLinked, next_of, common_steps, Placed, IsEntry, chain_from, first_symbol_of, symbols_of, insert_sorted, IsPredecessor, IsWord, IsHead, IsHeaded}
+use Rattle.std.specs.List.{IsDistinct}
 use Rattle.intaglio_index.specs.declared.index.modulus.Modulus.{Modulus}
-use Rattle.intaglio_index.specs.Filter.{IsFiltered, IsMarked}
 use Rattle.intaglio_index.specs.Modulus.{IsModulus}
-use Rattle.intaglio_index.specs.Links.{IsThread, IsLinked, next_of}
 use Rattle.intaglio_index.proofs.FilterLemmas.{filtered-push, filtered-take, filtered-vacated, marked-some}
 use Rattle.intaglio_index.proofs.LinkLemmas.{others_stay, path_within}
-use Rattle.std.proofs.lemmas.Grind.{common_steps}
-use Rattle.intaglio_index.specs.Placed.{Placed, chain, IsEntry, chain_from, first_symbol_of, symbols_of, insert_sorted, IsPredecessor}
-use Rattle.intaglio_index.specs.Heads.{IsWord, IsHead, IsHeaded}
+use Rattle.intaglio_index.specs.Placed.{chain}
 use Rattle.intaglio_index.proofs.ChainLemmas.{put-some, put-behind, chain-grows, chain-stays, symbol_at, chain-entries}
 
 -- a head whose words are both 0

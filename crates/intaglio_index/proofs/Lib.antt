@@ -1,3 +1,5 @@
+-- What the proofs share.
+mod Common
 pub mod ChainLemmas
 pub mod FilterLemmas
 pub mod HeadLemmas

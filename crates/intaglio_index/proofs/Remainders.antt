@@ -1,10 +1,6 @@
 -- A remainder without a division.
 use Rattle.std.proofs.Common.{◌≡◌, ℕ, ◌+◌, ◌-◌, ◌*◌, ◌/◌, ◌%◌, ◌^◌, ◌<◌, ◌≤◌, sym, ap, ◌∙◌, arith, inl, inr}
-use Rattle.std.specs.Int.{IsPowerOfTwo}
-use Rattle.std.specs.Int.RustNames.{bit_and}
-use Rattle.std.proofs.lemmas.Bool.{cases_lt}
-use Rattle.std.proofs.lemmas.Nat.{and_mask, div-add-mod', mod-mul-add}
-use Rattle.std.proofs.Math.Nat.{mul-le-mul_left, mul-le-mul_right}
+use Rattle.intaglio_index.proofs.Common.{IsPowerOfTwo, bit_and, cases_lt, and_mask, div-add-mod', mod-mul-add, mul-le-mul_left, mul-le-mul_right}
 
 -- by a power of two
 pub masked : (hash count mask : ℕ) → IsPowerOfTwo (mask + 1) → count ≡ mask + 1 →

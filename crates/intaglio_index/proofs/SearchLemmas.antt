@@ -1,17 +1,8 @@
 -- What a search along a bucket finds.
-use Rattle.std.proofs.lemmas.Grind.{common_steps}
+use Rattle.intaglio_index.proofs.Common.{common_steps, MatchOption, IfSome, AllByRecursion, eqb-false, true≢false, eqb_tells, get_or_default, recursion_from_All, Event, step, Head, Placed, chain_from, head_of, first_symbol_with, IsEntry, BeginsAtOrAbove, IsPredecessor, IsFound, IsPassed, IsBehind, IsReached, IsAt, IsHead, IsWord}
 use Rattle.std.proofs.Common.{cond, eqb, ◌≡◌, ◌≢◌, ◌⊎◌, ℕ, ◌+◌, ◌*◌, ◌/◌, ◌%◌, ◌<◌, ◌≤◌, Bool, true, false, List, [], ◌∷◌, ◌++◌, length, get_or, replicate, Option, Some, None, refl, sym, ap, ◌∙◌, arith, inl, inr, append_assoc, length-append}
-use Rattle.std.specs.Option.{MatchOption, IfSome}
-use Rattle.std.specs.List.{AllByRecursion, IsDistinct}
-use Rattle.std.proofs.lemmas.Bool.{eqb-false, true≢false}
-use Rattle.std.proofs.lemmas.Bool.Decides.{eqb_tells}
-use Rattle.std.proofs.lemmas.List.{get_or_default}
-use Rattle.std.proofs.lemmas.List.Elements.{recursion_from_All}
-use Rattle.intaglio_content.specs.Work.{Event, step}
-use Rattle.intaglio_index.specs.declared.index.head.Head.{Head}
-use Rattle.intaglio_index.specs.Placed.{Placed, chain, chain_from, head_of, first_symbol_with, IsEntry, BeginsAtOrAbove, IsPredecessor}
-use Rattle.intaglio_index.specs.Found.{IsFound, IsPassed, IsBehind, IsReached, IsAt}
-use Rattle.intaglio_index.specs.Heads.{IsHead, IsWord}
+use Rattle.std.specs.List.{IsDistinct}
+use Rattle.intaglio_index.specs.Placed.{chain}
 use Rattle.intaglio_index.proofs.ChainLemmas.{Each-so, Each-right, Each-append, chain-complete, chain-entry, chain-entries, chain-in_order, entry-split, InOrder}
 use Rattle.intaglio_index.proofs.HeadLemmas.{IsOccupied, first_within, second_within}
 use Rattle.intaglio_index.proofs.Words.{same_number, high_below, high_above, block_below, below_block, word_same}

@@ -1,9 +1,8 @@
 -- A walk along a bucket.
 use Rattle.std.proofs.Common.{◌≡◌, ℕ, ◌<◌, List, [], ◌∷◌, ◌++◌, length, cond, false, refl, sym, ap, ◌∙◌, arith, eqb, Option, Some, None, append_assoc}
 use Rattle.std.specs.List.{IsDistinct}
-use Rattle.std.proofs.lemmas.Bool.{eq-eqb}
-use Rattle.intaglio_index.specs.Found.{HasPassed, IsAt}
-use Rattle.intaglio_index.specs.Placed.{Placed, chain, head_of, symbols_of}
+use Rattle.intaglio_index.proofs.Common.{eq-eqb, HasPassed, IsAt, Placed, head_of, symbols_of}
+use Rattle.intaglio_index.specs.Placed.{chain}
 use Rattle.intaglio_index.proofs.ChainLemmas.{chain-distinct, chain-entry, symbol_at, Each-append}
 
 -- what is left of a path at a candidate

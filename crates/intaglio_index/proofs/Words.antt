@@ -1,14 +1,8 @@
 -- Words that hold a hash with a symbol.
-use Rattle.std.proofs.lemmas.Grind.{common_steps}
+use Rattle.intaglio_index.proofs.Common.{common_steps, IsPowerOfTwo, bit_xor, cases_lt, pow_pos, pow_below, xor_shr, xor_mod, div-add-mod', div-mul-add, mod-mul-add, div_below, mul-add-lt, le-div, pow-add, mul-le-mul_right, div-eq_of_lt, div-lt_iff_lt-mul, IsWord}
 use Rattle.std.proofs.Common.{◌≡◌, ◌≢◌, ◌↔◌, ℕ, ◌+◌, ◌-◌, ◌*◌, ◌/◌, ◌%◌, ◌^◌, ◌<◌, ◌≤◌, sym, ap, ◌∙◌, arith, inl, inr}
-use Rattle.std.specs.Int.{IsPowerOfTwo}
-use Rattle.std.specs.Int.RustNames.{bit_xor}
 use Rattle.std.specs.Int.Bits.{xor_self}
-use Rattle.std.proofs.lemmas.Bool.{cases_lt}
-use Rattle.std.proofs.lemmas.Nat.{pow_pos, pow_below, xor_shr, xor_mod, div-add-mod', div-mul-add, mod-mul-add, div_below, mul-add-lt, le-div, pow-add}
-use Rattle.std.proofs.Math.Nat.{mul-le-mul_right, div-eq_of_lt, div-lt_iff_lt-mul}
 use Rattle.intaglio_content.proofs.SameLemmas.{xor-none}
-use Rattle.intaglio_index.specs.Heads.{IsWord}
 
 -- what is below the size is left of a number that has the same high bits
 agrees_at : (k a b : ℕ) → bit_xor a b < 2 ^ k ↔ (a / 2 ^ k ≡ b / 2 ^ k)

@@ -1,7 +1,5 @@
 use Rattle.std.proofs.Common.{List, length}
-use Rattle.intaglio_content.specs.Work.{Event}
-use Rattle.intaglio_index.specs.Found.{IsReached}
-use Rattle.intaglio_index.specs.Placed.{bucket_of}
+use Rattle.intaglio_index.proofs.Common.{Event, IsReached, bucket_of}
 use Rattle.intaglio_index.proofs.WalkLemmas.{rest_of}
 use Rattle.intaglio_index.proofs.index.Index.find_along.Given as goal
 

@@ -1,8 +1,5 @@
-use Rattle.std.proofs.lemmas.Grind.{common_steps}
+use Rattle.intaglio_index.proofs.Common.{common_steps, eqb-false, Placed, bucket_of, IsReached}
 use Rattle.std.proofs.Common.{◌≡◌, ◌+◌, ◌%◌, length, ap, ◌∙◌, arith, inl}
-use Rattle.std.proofs.lemmas.Bool.{eqb-false}
-use Rattle.intaglio_index.specs.Placed.{Placed, bucket_of}
-use Rattle.intaglio_index.specs.Found.{IsReached}
 use Rattle.intaglio_index.proofs.FilterLemmas.{marked-some}
 use Rattle.intaglio_index.proofs.HeadLemmas.{count_is, numbered, is_occupied, second_within}
 use Rattle.intaglio_index.proofs.SearchLemmas.{IsRead, begins, head_absent, head_behind, word_first, word_second, word_within, two_steps, each_some, hash_read}

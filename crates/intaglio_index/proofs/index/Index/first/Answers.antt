@@ -1,6 +1,5 @@
-use Rattle.std.proofs.lemmas.Grind.{common_steps}
+use Rattle.intaglio_index.proofs.Common.{common_steps, eqb-true}
 use Rattle.std.proofs.Common.{arith}
-use Rattle.std.proofs.lemmas.Bool.{eqb-true}
 use Rattle.intaglio_index.proofs.ChainLemmas.{chain-bucket, none-placed}
 use Rattle.intaglio_index.proofs.LinkLemmas.{no_buckets}
 use Rattle.intaglio_index.proofs.index.Index.first.Goals as goal

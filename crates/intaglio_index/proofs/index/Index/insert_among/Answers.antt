@@ -1,6 +1,6 @@
-use Rattle.std.proofs.lemmas.Grind.{common_steps}
+use Rattle.intaglio_index.proofs.Common.{common_steps, IsPredecessor}
 use Rattle.std.proofs.Common.{◌≡◌, ℕ, ◌<◌, ◌%◌, length, arith, ◌∙◌}
-use Rattle.intaglio_index.specs.Placed.{chain, IsPredecessor}
+use Rattle.intaglio_index.specs.Placed.{chain}
 use Rattle.intaglio_index.proofs.ChainLemmas.{chain-distinct}
 use Rattle.intaglio_index.proofs.HeadLemmas.{head_read, holds_pushed, alone_is}
 use Rattle.intaglio_index.proofs.LinkLemmas.{place_first, place_behind, predecessor_within}

@@ -1,6 +1,5 @@
 use Rattle.std.proofs.Common.{◌≡◌, ◌↔◌, ◌+◌, ◌/◌, ◌≤◌}
-use Rattle.std.specs.Int.RustNames.{bit_xor}
-use Rattle.std.proofs.lemmas.Bool.{leb-true, le-leb}
+use Rattle.intaglio_index.proofs.Common.{bit_xor, leb-true, le-leb}
 use Rattle.intaglio_index.proofs.Words.{agrees_is}
 use Rattle.intaglio_index.proofs.index.modulus.Modulus.agrees.Goals as goal
 

@@ -1,6 +1,5 @@
-use Rattle.std.proofs.lemmas.Grind.{common_steps}
+use Rattle.intaglio_index.proofs.Common.{common_steps, div-add-mod'}
 use Rattle.std.proofs.Common.{arith}
-use Rattle.std.proofs.lemmas.Nat.{div-add-mod'}
 use Rattle.intaglio_index.proofs.Remainders.{masked}
 use Rattle.intaglio_index.proofs.index.modulus.Modulus.high.Goals as goal
 

@@ -1,6 +1,5 @@
-use Rattle.std.proofs.lemmas.Grind.{common_steps}
+use Rattle.intaglio_index.proofs.Common.{common_steps, IsPowerOfTwo}
 use Rattle.std.proofs.Common.{◌+◌, ◌<◌, ◌≤◌, ◌^◌, arith, refl}
-use Rattle.std.specs.Int.{IsPowerOfTwo}
 use Rattle.intaglio_index.proofs.index.modulus.Modulus.new.Goals as goal
 use Rattle.intaglio_index.proofs.index.modulus.Modulus.new.Goals.{in-Some, in-None}
 
