@@ -23,23 +23,23 @@ digit-other : (b : ℕ) → is_ascii_digit b ≡ false → (48 ≤ b) × (b ≤ 
 digit-other b is range = grind (arith, common_steps)
 
 -- one digit more
-pub more-digits : (bs : List ℕ) (i : ℕ) → i < length bs → is_ascii_digit (get_or bs i 0) ≡ true →
+pub more_digits : (bs : List ℕ) (i : ℕ) → i < length bs → is_ascii_digit (get_or bs i 0) ≡ true →
     AllDigits 10 (take i bs) → AllDigits 10 (take (i + 1) bs)
-more-digits bs i within is all = grind (arith, common_steps, digit-range, digits_more, digit-value)
+more_digits bs i within is all = grind (arith, common_steps, digit-range, digits_more, digit-value)
 
 -- ten times the value so far, plus the next digit, is the value with that digit, all cut at 2 ^ 64 - 1
-pub more-value : (bs : List ℕ) (i value : ℕ) → i < length bs → is_ascii_digit (get_or bs i 0) ≡ true →
+pub more_value : (bs : List ℕ) (i value : ℕ) → i < length bs → is_ascii_digit (get_or bs i 0) ≡ true →
     value ≡ min (digits_value 10 (take i bs)) (2 ^ 64 - 1)
     → min (value * 10 + (get_or bs i 0 - 48)) (2 ^ 64 - 1) ≡ min (digits_value 10 (take (i + 1) bs))
     (2 ^ 64 - 1)
-more-value bs i value within is so =
+more_value bs i value within is so =
     omega (arith, so, digits_value_more 10 bs i within, digit-value (get_or bs i 0) is)
 
 -- where one byte is no digit, not all are
-pub not-digits : (bs : List ℕ) (i : ℕ) → i < length bs → is_ascii_digit (get_or bs i 0) ≡ false →
+pub not_digits : (bs : List ℕ) (i : ℕ) → i < length bs → is_ascii_digit (get_or bs i 0) ≡ false →
     all_ascii_digits bs ≡ false
-not-digits bs i within other = grind (arith, common_steps, false_from_ne_true, digit-other, digit_at, digits)
+not_digits bs i within other = grind (arith, common_steps, false_from_ne_true, digit-other, digit_at, digits)
 
 -- if the first i bytes are digits and there are no more than i, all bytes are digits
-pub digits-all : (bs : List ℕ) (i : ℕ) → length bs ≤ i → AllDigits 10 (take i bs) → all_ascii_digits bs ≡ true
-digits-all bs i past all = digits.from bs (subst (AllDigits 10) (take_all i bs past) all)
+pub digits_all : (bs : List ℕ) (i : ℕ) → length bs ≤ i → AllDigits 10 (take i bs) → all_ascii_digits bs ≡ true
+digits_all bs i past all = digits.from bs (subst (AllDigits 10) (take_all i bs past) all)

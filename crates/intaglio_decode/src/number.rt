@@ -19,6 +19,7 @@ pub fn number_of(line: &[u8]) -> Option<u64>
 }
 
 // The number of these digits, if all bytes are digits.
+#[tactic(auto, using(crate::proofs::Digits::more_digits, crate::proofs::Digits::more_value, crate::proofs::Digits::not_digits, crate::proofs::Digits::digits_all, std::proofs::lemmas::List::take_all))]
 fn value_of(digits: &[u8]) -> Option<u64>
     ensures { result ≡ (if all_ascii_digits digits.now then Some (value_in digits.now) else None) }
 {

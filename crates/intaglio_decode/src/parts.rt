@@ -104,6 +104,7 @@ fn check_symbols(alloc: Global, bytes: &[u8], count: Option<u64>) -> Result<(), 
 }
 
 // The same for the symbol on the line with this number.
+#[tactic(auto, using(crate::proofs::Symbols::number_utf8))]
 fn check_symbol(
     alloc: Global,
     line: &[u8],

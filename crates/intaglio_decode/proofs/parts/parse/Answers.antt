@@ -4,7 +4,7 @@ use Rattle.std.proofs.Common.{◌≡◌, ◌∙◌, ap, sym, length, map, Some, 
 use Rattle.std.proofs.lemmas.List.{length-map}
 use Rattle.intaglio_lines.specs.Fault.{first_fault, symbol_lines}
 use Rattle.intaglio_lines.proofs.Reading.{known-lines}
-use Rattle.intaglio_decode.proofs.Symbols.{holds-parts}
+use Rattle.intaglio_decode.proofs.Symbols.{holds_parts}
 use Rattle.intaglio_decode.proofs.parts.parse.Goals as goal
 
 pub returns-clause-holds : goal.returns-clause-holds
@@ -14,7 +14,7 @@ returns-clause-holds c =
     let size = length-map items (λ (s : Bor (List ℕ)). s.now) in
     let count : length spellings ≡ c.len.result =
     omega (arith, size, c.len.ensures, c.in_ok-spellings.spellings.ok.0) in
-    holds-parts c.args.bytes.now spellings (omega arith)
+    holds_parts c.args.bytes.now spellings (omega arith)
     (sym c.behind_blank.ensures.any ∙ ap is_some c.in-Some.is)
     (c.in_ok-spellings.ensures ∙ c.in-Some.ensures.behind)
     (ap (λ t. first_fault (Some t) 1 (symbol_lines c.args.bytes.now)) count
