@@ -1,18 +1,16 @@
 -- The lines of symbols, one by one.
 use Rattle.std.proofs.lemmas.Grind.{common_steps}
-use Rattle.std.proofs.Common.{◌≡◌, ◌∙◌, sym, ap, refl, ℕ, ◌+◌, ◌-◌, ◌^◌, ◌<◌, ◌≤◌, min, one-add, true, false, cond, eqb, List, [], ◌∷◌, ◌++◌, length, get_or, map, Option, Some, None, append_assoc, subst, Bor, IsUtf8, arith}
+use Rattle.std.proofs.Common.{◌≡◌, ◌∙◌, ap, refl, ℕ, ◌+◌, ◌-◌, ◌^◌, ◌<◌, ◌≤◌, one-add, true, false, eqb, List, [], ◌∷◌, length, get_or, Option, subst, Bor, IsUtf8, arith}
 use Rattle.std.specs.Option.{option_or}
-use Rattle.std.specs.List.{before_first, list_any}
+use Rattle.std.specs.List.{before_first}
 use Rattle.std.specs.Str.Parse.{digits_value}
 use Rattle.std.proofs.lemmas.List.{length-map}
 use Rattle.std.proofs.lemmas.Str.{IsUtf8-from_ascii}
 use Rattle.std.proofs.lemmas.Fmt.{IsAscii-from_digits}
 use Rattle.intaglio_lines.specs.Lines.{lines_of}
-use Rattle.intaglio_lines.specs.Output.{spelling_line}
-use Rattle.intaglio_lines.specs.Decoded.{Holds, decoded, is_ended}
-use Rattle.intaglio_lines.specs.Fault.{Fault, is_blank, is_number, symbol_lines, spellings_of, line_fault, first_fault, AreKnown}
+use Rattle.intaglio_lines.specs.Decoded.{is_ended}
+use Rattle.intaglio_lines.specs.Fault.{Fault, is_blank, is_number, symbol_lines, line_fault, first_fault, AreKnown}
 use Rattle.intaglio_lines.proofs.Numbers.{digits, digits-from_number}
-use Rattle.intaglio_lines.proofs.Reading.{holds-read}
 use Rattle.intaglio_decode.specs.Parts.{spellings_in}
 use Rattle.intaglio_decode.specs.RestoreError.{Reports}
 use Rattle.intaglio_decode.specs.declared.error.RestoreError.{RestoreError}
@@ -67,40 +65,10 @@ module _ (bytes line after : List ℕ) (lines : lines_of bytes ≡ line ∷ line
       ((is_number line ≡ true) × (digits_value 10 line < count)) × AreKnown count (symbol_lines after)
   known_more count known = subst (AreKnown count) (symbol_lines-more bytes line after lines written) known
 
-  -- so the number that is read of the first one is its number, and below the count
-  pub first_known : (count : ℕ) (read : Option ℕ) → count < 2 ^ 64 → AreKnown count (symbol_lines bytes) →
-      read ≡ cond (is_number line) (Some (min (digits_value 10 line) (2 ^ 64 - 1))) None
-      → (read ≡ Some (digits_value 10 line)) × (digits_value 10 line < count)
-  first_known count read few known gives =
-      let is = (known_more count known).0 in
-      let whole : min (digits_value 10 line) (2 ^ 64 - 1) ≡ digits_value 10 line = omega (arith, is.1) in
-      (rw (is.0, whole) at gives, is.1)
-
-  -- what the symbols stand for begins with what the first one stands for
-  pub decoded_more : (spellings : List (List ℕ)) (done : List ℕ)
-      → (done ++ spelling_line (get_or spellings (digits_value 10 line) []))
-      ++ decoded (map (digits_value 10) (symbol_lines after)) spellings
-      ≡ done ++ decoded (map (digits_value 10) (symbol_lines bytes)) spellings
-  decoded_more spellings done =
-      append_assoc done (spelling_line (get_or spellings (digits_value 10 line) []))
-      (decoded (map (digits_value 10) (symbol_lines after)) spellings)
-      ∙ ap (λ t. done ++ decoded (map (digits_value 10) t) spellings)
-      (sym (symbol_lines-more bytes line after lines written))
-
 -- there are fewer spellings than 2 ^ 64
 pub few_spellings : (parts : Parts) → length (spellings_in parts) < 2 ^ 64
 few_spellings parts =
     omega (arith, length-map parts.spellings.items (λ (s : Bor (List ℕ)). s.now), parts.spellings.ok.0)
-
--- what has an empty line, no fault in front of it, and an ended last line has no fault, and is read whole
-pub holds_parts : (bytes : List ℕ) (spellings : List (List ℕ)) → length bytes < 2 ^ 64 →
-    list_any is_blank (lines_of bytes) ≡ true → spellings ≡ spellings_of bytes
-    → first_fault (Some (length spellings)) 1 (symbol_lines bytes) ≡ None → is_ended bytes ≡ true →
-    Holds (map (digits_value 10) (symbol_lines bytes)) spellings bytes
-holds_parts bytes spellings few any same first ended =
-    let none : first_fault (Some (length (spellings_of bytes))) 1 (symbol_lines bytes) ≡ None =
-    ap (λ t. first_fault (Some (length t)) 1 (symbol_lines bytes)) (sym same) ∙ first in
-    rw same (holds-read bytes few (rw (any, none, ended) refl))
 
 -- a number has digits alone, which are ASCII and so UTF-8
 pub number_utf8 : (line : List ℕ) → is_number line ≡ true → IsUtf8 line

@@ -7,27 +7,25 @@ use Rattle.intaglio_decode.proofs.parts.PartsOutput.put_all.Goals as goal
 
 pub unwrap-symbol-requires : goal.unwrap-symbol-requires
 unwrap-symbol-requires g c =
-    let known = known_more c.loop-rest.rest.now _ c.first_line.result.1.now c.first_line.ensures.lines
+    let more = known_more c.loop-rest.rest.now _ c.first_line.result.1.now c.first_line.ensures.lines
     (sym c.is_empty-in-loop-rest.ensures ∙ c.if-is_empty.false) _ c.loop-rest.invariant.known in
-    grind (arith, common_steps, known)
+    grind (arith, common_steps, more)
 
 pub spelling-requires : goal.spelling-requires
 spelling-requires g c =
-    let known = known_more c.loop-rest.rest.now _ c.first_line.result.1.now c.first_line.ensures.lines
+    let more = known_more c.loop-rest.rest.now _ c.first_line.result.1.now c.first_line.ensures.lines
     (sym c.is_empty-in-loop-rest.ensures ∙ c.if-is_empty.false) _ c.loop-rest.invariant.known in
-    grind (arith, common_steps, known, few_spellings c.args.self.now)
+    grind (arith, common_steps, more, few_spellings c.args.self.now)
 
 pub loop-rest-preserved : goal.loop-rest-preserved
 loop-rest-preserved g c =
-    let written = sym c.is_empty-in-loop-rest.ensures ∙ c.if-is_empty.false in
-    let more = symbol_lines-more c.loop-rest.rest.now _ c.first_line.result.1.now c.first_line.ensures.lines written in
-    let known = known_more c.loop-rest.rest.now _ c.first_line.result.1.now c.first_line.ensures.lines
-    written _ c.loop-rest.invariant.known in
+    let more = symbol_lines-more c.loop-rest.rest.now _ c.first_line.result.1.now c.first_line.ensures.lines in
+    let known = known_more c.loop-rest.rest.now _ c.first_line.result.1.now c.first_line.ensures.lines in
     record {
-      known = known.1;
+      known = grind (arith, common_steps, known);
       put = (
         _,
         Appends-append _ _ _ _ _ c.loop-rest.invariant.put.1 c.in_ok-put_line.ensures.put,
-        grind (arith, common_steps, known.0, few_spellings c.args.self.now, c.loop-rest.invariant.put.2, more),
+        grind (arith, common_steps, known, few_spellings c.args.self.now, c.loop-rest.invariant.put.2, more),
       );
     }
