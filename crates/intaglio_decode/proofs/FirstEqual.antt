@@ -42,37 +42,25 @@ module _ (key : List ℕ → Key) where
 
   found-all : (held cs : List (List ℕ)) (k : Key) → found (interned_all key held cs) k ≡ found (held ++ cs) k
   found-all held [] k = ap (λ t. found t k) (sym (append-nil held))
-  found-all held (c ∷ cs) k =
-      grind (
-        arith,
-        common_steps,
-        found-all (interned key held c) cs k,
-        find-append (λ other. key_eq (key other) k) (interned key held c) cs,
-        found-interned held c k,
-        find-append (λ other. key_eq (key other) k) (held ++ c ∷ []) cs,
-        append_assoc held (c ∷ []) cs,
-      )
+  found-all held (c ∷ cs) k = grind (arith, common_steps, found-all (interned key held c) cs k, find-append (λ other. key_eq (key other) k) (interned key held c) cs, found-interned held c k, find-append (λ other. key_eq (key other) k) (held ++ c ∷ []) cs, append_assoc held (c ∷ []) cs)
 
   -- what is interned is found at its symbol
   first-all : (all held cs : List (List ℕ)) (c : List ℕ) → all ≡ interned_all key held (c ∷ cs) →
       first key all (key c) ≡ Some (issued key held c)
-  first-all all held cs c same =
-      rw same (first-still key (interned key held c) cs (key c) (issued key held c) (issued-found key held c))
+  first-all all held cs c same = rw same (first-still key (interned key held c) cs (key c) (issued key held c) (issued-found key held c))
 
   -- the spellings of the symbols that are issued are those of the first equal lines
   issued-spellings : (lines all held cs : List (List ℕ)) → ((k : Key) → found all k ≡ found lines k) →
       all ≡ interned_all key held cs
       → map (λ n. get_or all n []) (issue_from key held cs) ≡ map (first_equal key lines) cs
   issued-spellings lines all held [] finds same = refl
-  issued-spellings lines all held (c ∷ cs) finds same =
-      grind (arith, common_steps, found-first all (key c), first-all all held cs c same, finds (key c), issued-spellings lines all (interned key held c) cs finds same)
+  issued-spellings lines all held (c ∷ cs) finds same = grind (arith, common_steps, found-first all (key c), first-all all held cs c same, finds (key c), issued-spellings lines all (interned key held c) cs finds same)
 
   -- each is one of those held
   issued-known : (all held cs : List (List ℕ)) → all ≡ interned_all key held cs →
       AllByRecursion (λ n. n < length all) (issue_from key held cs)
   issued-known all held [] same = tt
-  issued-known all held (c ∷ cs) same =
-      grind (arith, common_steps, some-below, length-map, first-all all held cs c same, issued-known all (interned key held c) cs same)
+  issued-known all held (c ∷ cs) same = grind (arith, common_steps, some-below, length-map, first-all all held cs c same, issued-known all (interned key held c) cs same)
 
   interned-lines : (held cs : List (List ℕ)) → All IsLine held → AllByRecursion IsLine cs →
       All IsLine (interned_all key held cs)
