@@ -1,18 +1,13 @@
 -- The laws, from the lemmas on reading, on first equal lines and on symbols in order.
-use Rattle.std.proofs.lemmas.Grind.{common_steps}
-use Rattle.std.proofs.Common.{◌≡◌, ◌≢◌, ◌∙◌, ap, refl, sym, subst, List, ℕ, [], arith}
-use Rattle.std.specs.List.{flat_map}
-use Rattle.intaglio_interner.specs.Issue.{issue, interned_all}
+use Rattle.std.proofs.Common.{◌≡◌, ◌≢◌, refl, List, ℕ, [], arith}
 use Rattle.intaglio_lines.specs.Lines.{lines_of}
 use Rattle.intaglio_lines.specs.Kind.{key_of}
-use Rattle.intaglio_lines.specs.Output.{spelling_line}
 use Rattle.intaglio_lines.specs.Encoded.{encoded}
-use Rattle.intaglio_lines.specs.Decoded.{Decodes, with_last_line_ended}
 use Rattle.intaglio_lines.specs.declared.kind.Kind.{Kind}
-use Rattle.intaglio_lines.specs.declared.kind.Kind.TheVariants.{Text, Bytes, BStr, CStr, OsStr, Path}
+use Rattle.intaglio_lines.specs.declared.kind.Kind.TheVariants.{Path}
 use Rattle.intaglio_lines.proofs.ByLines.{flat_map-lines_of, lines_of-are_lines}
 use Rattle.intaglio_lines.proofs.Reading.{faults-exact, one-output, one-reading}
-use Rattle.intaglio_decode.specs.Laws.{FaultsAreExact, IsReadInOneWay, EncodingIsAFunction, DecodingGivesFirstSpellings, DecodingGivesInput, EncodingKeepsInput, DecodingKeepsKeys, EncodingIsInOrder, first_spellings}
+use Rattle.intaglio_decode.specs.Laws.{FaultsAreExact, IsReadInOneWay, DecodingGivesFirstSpellings, DecodingGivesInput, EncodingKeepsInput, DecodingKeepsKeys, EncodingIsInOrder}
 use Rattle.intaglio_decode.proofs.FirstEqual.{decodes-first, decoded-keys, firsts, holds-encoded}
 use Rattle.intaglio_decode.proofs.InOrder.{issue-in_order, distinct-interned_all}
 
@@ -22,50 +17,34 @@ faults_are_exact = faults-exact
 pub bytes_are_read_in_one_way : IsReadInOneWay
 bytes_are_read_in_one_way = one-reading
 
-pub encoding_is_a_function : EncodingIsAFunction
-encoding_is_a_function = grind (arith, common_steps)
-
 pub decoding_gives_first_spellings : DecodingGivesFirstSpellings
 decoding_gives_first_spellings = λ kind input. decodes-first (key_of kind) input
 
 -- equal contents are spelled alike, but paths
 spelled-alike : (kind : Kind) → kind ≢ Path → (a b : List ℕ) → key_of kind a ≡ key_of kind b → a ≡ b
-spelled-alike Text other a b same = cc
-spelled-alike Bytes other a b same = cc
-spelled-alike BStr other a b same = cc
-spelled-alike CStr other a b same = cc
-spelled-alike OsStr other a b same = cc
 spelled-alike Path other a b same = absurd (other refl)
+spelled-alike _ other a b same = cc
 
 pub decoding_gives_the_input : DecodingGivesInput
 decoding_gives_the_input = λ kind input other.
-    let lines = lines_of-are_lines input in
-    let is = firsts (key_of kind) (lines_of input) (lines_of input) lines lines in
-    subst (Decodes (encoded kind input))
-    (ap (flat_map spelling_line) (is.2 (spelled-alike kind other)) ∙ flat_map-lines_of input)
-    (decodes-first (key_of kind) input)
+    let is = firsts (key_of kind) (lines_of input) (lines_of input) (lines_of-are_lines input) (lines_of-are_lines input) in
+    rw (is.2 (spelled-alike kind other), flat_map-lines_of input) at (decodes-first (key_of kind) input)
 
 pub encoding_keeps_the_input : EncodingKeepsInput
 encoding_keeps_the_input = λ kind input other names few same.
-    one-output (encoded kind input) (with_last_line_ended input) (with_last_line_ended other) few
-    (decoding_gives_the_input kind input names)
-    (subst (λ t. Decodes t (with_last_line_ended other)) (sym same) (decoding_gives_the_input kind other names))
+    one-output (encoded kind input) _ _ few (decoding_gives_the_input kind input names)
+    (rw same (decoding_gives_the_input kind other names))
 
 pub decoding_keeps_keys : DecodingKeepsKeys
-decoding_keeps_keys = λ kind input. (
-  flat_map spelling_line (first_spellings (key_of kind) (lines_of input)),
-  decodes-first (key_of kind) input,
-  decoded-keys (key_of kind) input,
-)
+decoding_keeps_keys = λ kind input. (_, decodes-first (key_of kind) input, decoded-keys (key_of kind) input)
 
 pub encoding_is_in_order : EncodingIsInOrder
 encoding_is_in_order = λ kind input. (
-  issue (key_of kind) (lines_of input),
-  interned_all (key_of kind) [] (lines_of input),
+  _,
+  _,
   holds-encoded (key_of kind) input,
   record {
     order = issue-in_order (key_of kind) [] (lines_of input);
-    distinct =
-        distinct-interned_all (key_of kind) [] (lines_of input) (λ i j d below within. absurd (omega arith));
+    distinct = distinct-interned_all (key_of kind) [] (lines_of input) (λ i j d below within. absurd (omega arith));
   },
 )

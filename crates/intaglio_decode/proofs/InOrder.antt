@@ -34,20 +34,15 @@ module _ (key : List ℕ → Key) (spellings : List (List ℕ)) (distinct : Dist
     same : issue_from key (take next spellings) (map spelling_at symbols) ≡ symbols
     held : interned_all key (take next spellings) (map spelling_at symbols) ≡ spellings
 
-  -- a symbol that was issued before, or the next one
-  goes-cons : (next n : ℕ) (symbols : List ℕ) → next ≤ length spellings → n < length spellings → n ≤ next →
-      Goes (max next (n + 1)) symbols → Goes next (n ∷ symbols)
-  goes-cons next n symbols within known order go =
-      let front = cut-keeps key (holding spellings) next (holding (take next spellings)) within refl in
-      grind (arith, common_steps, front.found (key (spelling_at n)) n, front.dropped (key (spelling_at n)) n, found-at n, take_more spellings next [], length-take-le next spellings, go.same, go.held)
-
   goes : (next : ℕ) (symbols : List ℕ) → next ≤ length spellings →
       AllByRecursion (λ symbol. symbol < length spellings) symbols
       → AreInOrder next symbols (length spellings) → Goes next symbols
   goes next [] within known order =
       record { same = refl; held = take_all next spellings (omega (arith, order)) }
   goes next (n ∷ symbols) within known order =
-      goes-cons next n symbols within known.0 order.0 (goes (max next (n + 1)) symbols (omega (arith, known.0)) known.1 order.1)
+      let front = cut-keeps key (holding spellings) next (holding (take next spellings)) within refl in
+      let go = goes (max next (n + 1)) symbols (omega (arith, known.0)) known.1 order.1 in
+      grind (arith, common_steps, known.0, order.0, front.found (key (spelling_at n)) n, front.dropped (key (spelling_at n)) n, found-at n, take_more spellings next [], length-take-le next spellings, go.same, go.held)
 
   pub encodes-decoded : (symbols bytes : List ℕ) → Holds symbols spellings bytes →
       AreInOrder 0 symbols (length spellings)

@@ -10,7 +10,7 @@ use Rattle.intaglio_lines.specs.Fault.{Fault, is_blank, is_number, symbol_lines}
 use Rattle.intaglio_lines.proofs.Numbers.{digits, digits-from_number}
 use Rattle.intaglio_decode.specs.RestoreError.{Reports}
 use Rattle.intaglio_decode.specs.declared.error.RestoreError.{RestoreError}
-use Rattle.intaglio_decode.specs.declared.error.RestoreError.TheVariants.{NotANumber, NoString, NoEmptyLine, NotEnded, Stream}
+use Rattle.intaglio_decode.specs.declared.error.RestoreError.TheVariants.{Stream}
 
 -- if the first line isn't empty, the symbol lines are that line and those of what follows it
 pub symbol_lines-more : (bytes line after : List ℕ) → lines_of bytes ≡ line ∷ lines_of after →
@@ -21,11 +21,8 @@ symbol_lines-more bytes line after lines written =
 -- an error that reports the first fault of two
 pub reports_or : (e : RestoreError) (fault more : Option Fault) → Reports e fault →
     Reports e (option_or fault more)
-reports_or (NotANumber line) fault more is = rw is refl
-reports_or (NoString line number) fault more is = rw is refl
-reports_or NoEmptyLine fault more is = rw is refl
-reports_or NotEnded fault more is = rw is refl
 reports_or (Stream failure) fault more is = tt
+reports_or _ fault more is = rw is refl
 
 -- if there is a byte, the test whether the last one is 10 says whether the bytes are ended
 pub is_ended_last : (bytes : List ℕ) → 1 ≤ length bytes →

@@ -23,7 +23,6 @@ pub fn decoding_is_a_function()
 
 /// What is written for an input is a function of the input and the kind: two runs that succeed write the
 /// same, whatever was written before, and whatever tables and hashers they use.
-#[tactic(auto, using(crate::proofs::AllLaws::encoding_is_a_function))]
 pub fn encoding_is_a_function()
     ensures { EncodingIsAFunction }
 {}
