@@ -1,6 +1,6 @@
 -- What was written, piece by piece.
 use Rattle.std.proofs.lemmas.Grind.{common_steps}
-use Rattle.std.proofs.Common.{◌≡◌, ◌∙◌, sym, ap, refl, ℕ, ◌+◌, ◌-◌, min, List, [], ◌++◌, length, take, drop, append_assoc, append-nil, Option, Some, None, arith}
+use Rattle.std.proofs.Common.{◌∙◌, sym, refl, ℕ, ◌+◌, ◌-◌, ◌≤◌, min, List, [], ◌++◌, length, take, drop, append_assoc, append-nil, Option, Some, None, arith}
 use Rattle.std.proofs.Math.Seq.{take-add, take-append-add}
 use Rattle.std.proofs.lemmas.List.{append_cancel_left, take-append-le, take_min, take_rest}
 use Rattle.std.specs.Io.KnownBytes.{Appends, Keeps, append_known}
@@ -22,11 +22,11 @@ keeps-none (Some x) None keeps = absurd keeps
 keeps-none (Some x) (Some y) keeps = keeps ∙ sym (append-nil x)
 
 -- the bytes so far, and some of the rest
-pub written-next : (old mid new : Option (List ℕ)) (bytes : List ℕ) (at n : ℕ) →
+pub written_next : (old mid new : Option (List ℕ)) (bytes : List ℕ) (at n : ℕ) →
     Appends old mid (take at bytes)
     → Appends mid new (take n (take (length bytes - at) (drop at bytes))) →
     Appends old new (take (at + n) bytes)
-written-next old mid new bytes at n before more = grind (arith, common_steps, take_rest, take-add)
+written_next old mid new bytes at n before more = grind (arith, common_steps, take_rest, take-add)
 
 -- nothing was written
 pub front-none : (old : Option (List ℕ)) (bytes : List ℕ) → IsFront old old bytes
@@ -48,13 +48,9 @@ held-nothing (Some x) (Some y) bytes put = rw (append-nil x) put
 -- a front of bytes is one of more bytes
 pub front-more : (old new : Option (List ℕ)) (bytes more : List ℕ) → IsFront old new bytes →
     IsFront old new (bytes ++ more)
-front-more old new bytes more front = (
-  min front.0 (length bytes),
-  rw (
-    take-append-le (min front.0 (length bytes)) bytes more (omega arith),
-    take_min front.0 bytes,
-  ) front.1,
-)
+front-more old new bytes more front =
+    let le : min front.0 (length bytes) ≤ length bytes = omega arith in
+    (min front.0 (length bytes), rw (take-append-le (min front.0 (length bytes)) bytes more le, take_min front.0 bytes) front.1)
 
 -- bytes were put to a block or written, and then the front of the block and of others
 pub front-then : (old mid new : Option (List ℕ)) (block later bytes more : List ℕ) →
@@ -65,13 +61,7 @@ front-then None mid new block later bytes more put front next = (0, tt)
 front-then (Some x) None new block later bytes more put front next = absurd put
 front-then (Some x) (Some y) None block later bytes more put front next = absurd next.1
 front-then (Some x) (Some y) (Some z) block later bytes more put front next =
-    let part = take front.0 (block ++ bytes) in
-    let whole : part ++ later ≡ block ++ bytes = grind (arith, common_steps, append_cancel_left, append_assoc) in
-    let all : part ++ (later ++ more) ≡ block ++ (bytes ++ more) =
-    sym (append_assoc part later more) ∙ ap (λ t. t ++ more) whole ∙ append_assoc block bytes more in (
+    let part = take front.0 (block ++ bytes) in (
       length part + next.0,
-      next.1 ∙ ap (λ t. t ++ take next.0 (later ++ more)) front.1
-          ∙ append_assoc x part (take next.0 (later ++ more))
-          ∙ ap (λ t. x ++ t) (sym (take-append-add part (later ++ more) next.0)
-          ∙ ap (take (length part + next.0)) all),
+      grind (arith, common_steps, append_cancel_left, append_assoc, take-append-add part (later ++ more) next.0, put, front.1, next.1),
     )

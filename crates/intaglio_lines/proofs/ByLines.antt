@@ -1,6 +1,6 @@
 -- What holds of the lines of bytes, line by line.
 use Rattle.std.proofs.lemmas.Grind.{common_steps}
-use Rattle.std.proofs.Common.{◌≡◌, ◌≢◌, ◌∙◌, sym, ap, refl, subst, inl, inr, ℕ, suc, ◌<◌, ◌≤◌, Bool, true, false, cond, eqb, ne_eqb, List, [], ◌∷◌, ◌++◌, length, append_assoc, append-nil, length-append, arith}
+use Rattle.std.proofs.Common.{◌≡◌, ◌≢◌, ◌∙◌, sym, refl, subst, inl, inr, ℕ, suc, ◌<◌, ◌≤◌, true, false, eqb, ne_eqb, List, [], ◌∷◌, ◌++◌, length, append_assoc, append-nil, length-append, arith}
 use Rattle.std.specs.List.{flat_map, All, AllByRecursion}
 use Rattle.std.specs.Str.{IsUtf8}
 use Rattle.std.proofs.lemmas.Str.Ascii.{IsAscii-cons, IsAscii-nil}
@@ -93,16 +93,6 @@ is_ended-ten (byte ∷ rest) = refl
 is_ended-more : (line rest : List ℕ) → is_ended (line ++ 10 ∷ rest) ≡ is_ended rest
 is_ended-more line rest = is_ended-append line 10 rest ∙ is_ended-ten rest
 
--- an ended line with a rest behind it is the line, a byte 10 and the rest
-spelled-more : (line rest : List ℕ) → spelling_line line ++ rest ≡ line ++ 10 ∷ rest
-spelled-more line rest = append_assoc line (10 ∷ []) rest
-
--- putting a byte 10 behind a rest, or not, is putting it behind a line and the rest together, or not
-cond-ended : (b : Bool) (line rest : List ℕ) →
-    line ++ 10 ∷ cond b rest (rest ++ 10 ∷ []) ≡ cond b (line ++ 10 ∷ rest) ((line ++ 10 ∷ rest) ++ 10 ∷ [])
-cond-ended true line rest = refl
-cond-ended false line rest = sym (append_assoc line (10 ∷ rest) (10 ∷ []))
-
 -- the lines, each ended, are the bytes with their last line ended
 pub flat_map-lines_of : (bytes : List ℕ) →
     flat_map spelling_line (lines_of bytes) ≡ with_last_line_ended bytes
@@ -110,24 +100,18 @@ flat_map-lines_of =
     by_lines (λ bytes. flat_map spelling_line (lines_of bytes) ≡ with_last_line_ended bytes) refl
     (λ line some is. rw (lines_of-last line some is, is_ended-line line some is)
     (append-nil (spelling_line line)))
-    (λ line rest is same. rw (lines_of-more line rest is, is_ended-more line rest, same)
-    (spelled-more line (with_last_line_ended rest) ∙ cond-ended (is_ended rest) line rest))
+    (λ line rest is same. grind (arith, common_steps, lines_of-more line rest is, is_ended-more line rest, same, append_assoc))
 
 -- lines that are ended are those lines
 pub lines_of-flat_map : (lines : List (List ℕ)) → AllByRecursion IsLine lines →
     lines_of (flat_map spelling_line lines) ≡ lines
 lines_of-flat_map [] all = refl
-lines_of-flat_map (line ∷ lines) all =
-    ap lines_of (spelled-more line (flat_map spelling_line lines))
-    ∙ lines_of-more line (flat_map spelling_line lines) all.0
-    ∙ ap (λ t. line ∷ t) (lines_of-flat_map lines all.1)
+lines_of-flat_map (line ∷ lines) all = grind (arith, common_steps, append_assoc line (10 ∷ []) (flat_map spelling_line lines), lines_of-more line (flat_map spelling_line lines) all.0, lines_of-flat_map lines all.1)
 
 -- lines with a byte 10 behind each are bytes that are ended
 pub is_ended-flat_map : (lines : List (List ℕ)) → is_ended (flat_map spelling_line lines) ≡ true
 is_ended-flat_map [] = refl
-is_ended-flat_map (line ∷ lines) =
-    ap is_ended (spelled-more line (flat_map spelling_line lines))
-    ∙ is_ended-more line (flat_map spelling_line lines) ∙ is_ended-flat_map lines
+is_ended-flat_map (line ∷ lines) = grind (arith, common_steps, append_assoc line (10 ∷ []) (flat_map spelling_line lines), is_ended-more line (flat_map spelling_line lines), is_ended-flat_map lines)
 
 -- ended bytes with ended bytes behind them are ended
 pub ended-append : (front rest : List ℕ) → is_ended front ≡ true → is_ended rest ≡ true →
@@ -141,13 +125,8 @@ pub lines_of-append : (front rest : List ℕ) → is_ended front ≡ true →
 lines_of-append front rest =
     by_lines (λ front. is_ended front ≡ true → lines_of (front ++ rest) ≡ lines_of front ++ lines_of rest)
     (λ ended. refl)
-    (λ line some is ended. absurd (true≢false (sym ended ∙ is_ended-line line some is)))
-    (λ line more is same ended. rw (
-      append_assoc line (10 ∷ more) rest,
-      lines_of-more line (more ++ rest) is,
-      lines_of-more line more is,
-    )
-    (ap (λ t. line ∷ t) (same (sym (is_ended-more line more) ∙ ended))))
+    (λ line some is ended. grind (arith, common_steps, is_ended-line line some is))
+    (λ line more is same ended. grind (arith, common_steps, append_assoc line (10 ∷ more) rest, lines_of-more line (more ++ rest) is, lines_of-more line more is, same, is_ended-more line more))
     front
 
 -- a text that is cut behind a byte 10 gives two texts
@@ -169,10 +148,4 @@ texts front rest =
 -- each line takes a byte at least
 pub length-le-flat_map : (lines : List (List ℕ)) → length lines ≤ length (flat_map spelling_line lines)
 length-le-flat_map [] = omega arith
-length-le-flat_map (line ∷ lines) =
-    omega (
-      arith,
-      length-append (spelling_line line) (flat_map spelling_line lines),
-      length-append line (10 ∷ []),
-      length-le-flat_map lines,
-    )
+length-le-flat_map (line ∷ lines) = omega (arith, length-append (spelling_line line) (flat_map spelling_line lines), length-append line (10 ∷ []), length-le-flat_map lines)

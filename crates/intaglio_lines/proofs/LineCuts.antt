@@ -1,6 +1,6 @@
 -- The first line of bytes, and the lines of what stands after it.
 use Rattle.std.proofs.lemmas.Grind.{common_steps}
-use Rattle.std.proofs.Common.{◌≡◌, ◌∙◌, sym, ℕ, ◌+◌, ◌-◌, ◌<◌, Some, None, take, drop, List, [], ◌∷◌, Bool, true, false, eqb, ltb, eqb-true, subst, ◌++◌, cond, not, refl, length, get_or, arith, rules}
+use Rattle.std.proofs.Common.{◌≡◌, ℕ, ◌+◌, ◌-◌, ◌<◌, Some, None, take, drop, List, [], ◌∷◌, Bool, eqb, eqb-true, ◌++◌, refl, length, arith, rules}
 use Rattle.std.specs.List.{position, position_or_len, before_first, after_first}
 use Rattle.std.proofs.lemmas.List.Splits.{slice_split_first, slice_split_none, length-slice_split}
 use Rattle.std.proofs.lemmas.List.Sums.{fails_before_first, passes_at_first, split_at_first, prefix_len-le-length}
@@ -18,11 +18,6 @@ pub without_empty_last-one : (x : List ℕ) → 0 < length x → without_empty_l
 without_empty_last-one [] h = absurd (omega arith)
 without_empty_last-one (b ∷ bs) h = search rules
 
--- if an option that is given by a test is `None`, the test is false
-cond-none : (b : Bool) (m : ℕ) → cond b (Some m) None ≡ None → b ≡ false
-cond-none true m is = cc
-cond-none false m is = refl
-
 -- what `position` says, by the first place that passes
 pub position-Some : (p : ℕ → Bool) (bs : List ℕ) (end : ℕ) → position p bs ≡ Some end →
     (position_or_len p bs ≡ end) × (position_or_len p bs < length bs)
@@ -30,7 +25,7 @@ position-Some p bs end is = grind (arith, common_steps)
 
 -- if `position` gives no place, `position_or_len` gives the number of bytes
 pub position-None : (p : ℕ → Bool) (bs : List ℕ) → position p bs ≡ None → position_or_len p bs ≡ length bs
-position-None p bs is = grind (arith, common_steps, cond-none, ltb, prefix_len-le-length, not)
+position-None p bs is = grind (arith, common_steps, prefix_len-le-length)
 
 -- where there is a byte 10, the first line ends at the first
 pub lines-first : (bs : List ℕ) → position_or_len (λ b. eqb b 10) bs < length bs
@@ -55,15 +50,7 @@ lines-cut-nowhere bs is some = lines-last bs (position-None (λ b. eqb b 10) bs 
 -- the first line, its byte 10 and the rest are all of the bytes
 pub whole-cut-at : (bs : List ℕ) (end : ℕ) → position (λ b. eqb b 10) bs ≡ Some end
     → bs ≡ take end bs ++ 10 ∷ take (length bs - (end + 1)) (drop (end + 1) bs)
-whole-cut-at bs end is =
-    let p : ℕ → Bool = λ b. eqb b 10 in
-    let at = position-Some p bs end is in
-    let ten : get_or bs (position_or_len p bs) 0 ≡ 10 = eqb-true _ _ (passes_at_first p bs 0 at.1) in
-    let whole : take (length bs - (end + 1)) (drop (end + 1) bs) ≡ drop (end + 1) bs =
-    take_rest bs (end + 1) in
-    let parts : bs ≡ take (position_or_len p bs) bs ++ get_or bs (position_or_len p bs) 0
-    ∷ drop (position_or_len p bs + 1) bs = split_at_first p bs 0 at.1 in
-    rw whole
-    (rw (sym at.0)
-    (subst (λ t. bs ≡ take (position_or_len p bs) bs ++ t ∷ drop (position_or_len p bs + 1) bs)
-    ten parts))
+whole-cut-at bs end is = grind (arith, common_steps, eqb, position-Some (λ b. eqb b 10) bs end is, passes_at_first (λ b. eqb b 10) bs 0, split_at_first (λ b. eqb b 10) bs 0, take_rest bs (end + 1), eqb-true)
+
+-- the cuts at the first byte 10
+pub ruleset cuts = (lines-cut-at, lines-cut-nowhere, whole-cut-at)

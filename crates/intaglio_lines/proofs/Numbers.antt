@@ -1,6 +1,6 @@
 -- A number in decimal is a line that is a number, and says that number.
 use Rattle.std.proofs.lemmas.Grind.{common_steps}
-use Rattle.std.proofs.Common.{◌≡◌, ◌≢◌, refl, ℕ, ◌^◌, ◌<◌, true, false, not, eqb, ne_eqb, List, [], ◌∷◌, length, get_or, decimal, arith}
+use Rattle.std.proofs.Common.{◌≡◌, ◌≢◌, ℕ, ◌^◌, ◌<◌, true, not, eqb, ne_eqb, List, [], ◌∷◌, length, get_or, decimal, arith}
 use Rattle.std.specs.Str.{all_ascii_digits}
 use Rattle.std.specs.Str.Parse.{digits_value}
 use Rattle.std.proofs.lemmas.List.Elements.{All-from_get_or}
@@ -28,18 +28,13 @@ pub record IsNumber (ds : List ℕ) : Type 0 where
   pub some : 0 < length ds
   pub first : get_or ds 0 0 ≡ 48 → length ds ≡ 1
 
--- if the test says that a byte isn't 48, it isn't
-not-zero : (d : ℕ) → not (eqb d 48) ≡ true → d ≡ 48 → ⊥
-not-zero d other zero = let no : eqb d 48 ≡ false = not-true (eqb d 48) other in let yes : eqb d 48 ≡ true =
-    rw zero refl in cc
-
 -- a line that is a number is digits, one at least, and begins with 0 only if that is its only digit
 pub digits-from_number : (ds : List ℕ) → is_number ds ≡ true → IsNumber ds
 digits-from_number [] is = cc
 digits-from_number (d ∷ []) is = record { all = is; some = omega arith; first = λ _. omega arith }
 digits-from_number (d ∷ e ∷ more) is =
     let parts = and_parts (not (eqb d 48)) (all_ascii_digits (d ∷ e ∷ more)) is in
-    record { all = parts.1; some = omega arith; first = λ zero. absurd (not-zero d parts.0 zero) }
+    record { all = parts.1; some = omega arith; first = λ zero. grind (arith, common_steps, not-true, parts.0) }
 
 -- a number below 2 ^ 64 begins with 0 in decimal only if that is its only digit
 decimal-first : (n : ℕ) → n < 2 ^ 64 → get_or (decimal n) 0 0 ≡ 48 → length (decimal n) ≡ 1

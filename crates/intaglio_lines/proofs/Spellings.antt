@@ -5,19 +5,17 @@ use Rattle.intaglio_interner.specs.Issue.{issue_from, interned_all}
 use Rattle.intaglio_interner.proofs.Held.{interned_all-append, interned_all-longer, issue_from-append}
 
 module _ (key_of : List ℕ → Key) (held group lines rest : List (List ℕ)) (parts : lines ≡ group ++ rest) where
-  pub group-symbols : (new : List (List ℕ)) (taken : List ℕ) → taken ≡ issue_from key_of held group →
+  pub group_symbols : (new : List (List ℕ)) (taken : List ℕ) → taken ≡ issue_from key_of held group →
       new ≡ interned_all key_of held group
       → issue_from key_of held lines ≡ taken ++ issue_from key_of new rest
-  group-symbols new taken given after = rw (parts, given, after) (issue_from-append key_of held group rest)
+  group_symbols new taken given after = rw (parts, given, after) (issue_from-append key_of held group rest)
 
-  pub group-held : (new : List (List ℕ)) → new ≡ interned_all key_of held group →
+  pub group_held : (new : List (List ℕ)) → new ≡ interned_all key_of held group →
       interned_all key_of held lines ≡ interned_all key_of new rest
-  group-held new after = rw (parts, after) (interned_all-append key_of held group rest)
+  group_held new after = rw (parts, after) (interned_all-append key_of held group rest)
 
   -- what is more than the limit after the group is more than it after all lines
-  pub group-over : (limit : ℕ) → limit < length (interned_all key_of held group) →
+  pub group_over : (limit : ℕ) → limit < length (interned_all key_of held group) →
       limit < length (interned_all key_of held lines)
-  group-over limit over =
-      let longer = interned_all-longer key_of (interned_all key_of held group) rest in
-      let all = group-held (interned_all key_of held group) refl in
-      omega (arith, over, longer, ap length all)
+  group_over limit over =
+      omega (arith, over, interned_all-longer key_of (interned_all key_of held group) rest, ap length (group_held _ refl))

@@ -1,5 +1,6 @@
 -- What is written for a list of contents, one after the other.
-use Rattle.std.proofs.Common.{◌≡◌, ℕ, suc, zero, ◌+◌, add-one, List, [], ◌∷◌, ◌++◌, take, map, Option, Some, refl, sym, ap}
+use Rattle.std.proofs.lemmas.Grind.{common_steps}
+use Rattle.std.proofs.Common.{arith, ◌≡◌, ℕ, suc, zero, ◌+◌, add-one, List, [], ◌∷◌, ◌++◌, take, map, Option, Some, refl, sym, ap}
 use Rattle.std.specs.List.{slice_get, flat_map}
 use Rattle.std.specs.Option.{option_map}
 use Rattle.std.specs.Io.KnownBytes.{Appends}
@@ -18,14 +19,7 @@ take-next (x ∷ xs) (suc n) c at = ap (λ t. x ∷ t) (take-next xs n c at)
 module _ {C : Type 0} (f : List ℕ → List ℕ) (spelling : C → List ℕ) (cs : List C) (n : ℕ) where
   flat_map-next : (c : C) → slice_get cs n ≡ Some c →
       flat_map f (map spelling (take (n + 1) cs)) ≡ flat_map f (map spelling (take n cs)) ++ f (spelling c)
-  flat_map-next c at =
-      rw (
-        add-one n,
-        take-next cs n c at,
-        map-append spelling (take n cs) (c ∷ []),
-        flat_map-append f (map spelling (take n cs)) (spelling c ∷ []),
-      )
-      (ap (λ t. flat_map f (map spelling (take n cs)) ++ t) (append-nil (f (spelling c))))
+  flat_map-next c at = grind (arith, common_steps, take-next cs n c at, map-append spelling (take n cs) (c ∷ []), flat_map-append f (map spelling (take n cs)) (spelling c ∷ []), append-nil, add-one)
 
   -- the lines so far, and that of one content more
   pub appends-next : (old mid new : Option (List ℕ)) (line : List ℕ) →

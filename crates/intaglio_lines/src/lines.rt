@@ -5,6 +5,7 @@ ghost use Rattle.intaglio_lines.specs.Lines.{lines_of, Splits};
 use memchr::memchr;
 
 /// The first line of an input, and what follows it and its byte 10.
+#[tactic(auto, using(crate::proofs::LineCuts::cuts, std::proofs::lemmas::Grind::common_steps))]
 pub fn first_line(input: &[u8]) -> (&[u8], &[u8])
     requires { 0 < length input.now }
     ensures lines { lines_of input.now ≡ result.0.now ∷ lines_of result.1.now }

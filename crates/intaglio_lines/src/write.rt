@@ -142,6 +142,7 @@ pub fn make_room<W: Write>(count: usize, block: &mut Vec<u8>, writer: &mut W) ->
 ///
 /// Those of the writer, or `WriteZero` if it takes no more bytes. Then the front of the bytes is
 /// written, up to where it failed.
+#[tactic(auto, using(crate::proofs::Appended::written_next, std::proofs::lemmas::Grind::common_steps, std::proofs::lemmas::List::take_rest))]
 pub fn write_bytes<W: Write>(bytes: &[u8], writer: &mut W) -> io::Result<()>
     ensures written { OnOk result (Writes W.contents writer.old writer.new bytes.now) }
     ensures front { WritesFront W.contents writer.old writer.new bytes.now }
