@@ -1,6 +1,6 @@
 -- What was written, piece by piece.
 use Rattle.std.proofs.lemmas.Grind.{common_steps}
-use Rattle.std.proofs.Common.{◌∙◌, sym, refl, ℕ, ◌+◌, ◌-◌, ◌≤◌, min, List, [], ◌++◌, length, take, drop, append_assoc, append-nil, Option, Some, None, arith}
+use Rattle.std.proofs.Common.{◌∙◌, sym, refl, ℕ, ◌+◌, ◌-◌, min, List, [], ◌++◌, length, take, drop, append_assoc, append-nil, Option, Some, None, arith}
 use Rattle.std.proofs.Math.Seq.{take-add, take-append-add}
 use Rattle.std.proofs.lemmas.List.{append_cancel_left, take-append-le, take_min, take_rest}
 use Rattle.std.specs.Io.KnownBytes.{Appends, Keeps, append_known}
@@ -48,9 +48,7 @@ held-nothing (Some x) (Some y) bytes put = rw (append-nil x) put
 -- a front of bytes is one of more bytes
 pub front-more : (old new : Option (List ℕ)) (bytes more : List ℕ) → IsFront old new bytes →
     IsFront old new (bytes ++ more)
-front-more old new bytes more front =
-    let le : min front.0 (length bytes) ≤ length bytes = omega arith in
-    (min front.0 (length bytes), rw (take-append-le (min front.0 (length bytes)) bytes more le, take_min front.0 bytes) front.1)
+front-more old new bytes more front = (min front.0 (length bytes), rw (take-append-le (min front.0 (length bytes)) bytes more (omega arith), take_min front.0 bytes) front.1)
 
 -- bytes were put to a block or written, and then the front of the block and of others
 pub front-then : (old mid new : Option (List ℕ)) (block later bytes more : List ℕ) →

@@ -84,22 +84,17 @@ is_ended-append [] byte rest = refl
 is_ended-append (first ∷ []) byte rest = refl
 is_ended-append (first ∷ next ∷ front) byte rest = is_ended-append (next ∷ front) byte rest
 
--- a byte 10 in front of bytes doesn't change whether they are ended
-is_ended-ten : (rest : List ℕ) → is_ended (10 ∷ rest) ≡ is_ended rest
-is_ended-ten [] = refl
-is_ended-ten (byte ∷ rest) = refl
-
 -- bytes and a byte 10 in front of others don't change whether these are ended
 is_ended-more : (line rest : List ℕ) → is_ended (line ++ 10 ∷ rest) ≡ is_ended rest
-is_ended-more line rest = is_ended-append line 10 rest ∙ is_ended-ten rest
+is_ended-more line [] = is_ended-append line 10 []
+is_ended-more line (byte ∷ rest) = is_ended-append line 10 (byte ∷ rest)
 
 -- the lines, each ended, are the bytes with their last line ended
 pub flat_map-lines_of : (bytes : List ℕ) →
     flat_map spelling_line (lines_of bytes) ≡ with_last_line_ended bytes
 flat_map-lines_of =
     by_lines (λ bytes. flat_map spelling_line (lines_of bytes) ≡ with_last_line_ended bytes) refl
-    (λ line some is. rw (lines_of-last line some is, is_ended-line line some is)
-    (append-nil (spelling_line line)))
+    (λ line some is. grind (arith, common_steps, lines_of-last line some is, is_ended-line line some is))
     (λ line rest is same. grind (arith, common_steps, lines_of-more line rest is, is_ended-more line rest, same, append_assoc))
 
 -- lines that are ended are those lines
@@ -137,12 +132,10 @@ texts front rest =
     (λ ended text. (IsUtf8-nil, text))
     (λ line some is ended. absurd (true≢false (sym ended ∙ is_ended-line line some is)))
     (λ line more is parts ended text.
-    let cut = IsUtf8-parts line (more ++ rest) (subst IsUtf8 (append_assoc line (10 ∷ more) rest) text) in
+    let cut = IsUtf8-parts line (more ++ rest) (rw (append_assoc line (10 ∷ more) rest) at text) in
     let both = parts (sym (is_ended-more line more) ∙ ended) cut.1 in
-    let end : IsUtf8 (10 ∷ more) =
-    IsUtf8-append (10 ∷ []) more
-    (IsUtf8-from_ascii (10 ∷ []) (IsAscii-cons 10 [] (omega arith) IsAscii-nil)) both.0 in
-    (IsUtf8-append line (10 ∷ more) cut.0 end, both.1))
+    let end = IsUtf8-from_ascii (10 ∷ []) (IsAscii-cons 10 [] (omega arith) IsAscii-nil) in
+    (IsUtf8-append line (10 ∷ more) cut.0 (IsUtf8-append (10 ∷ []) more end both.0), both.1))
     front
 
 -- each line takes a byte at least

@@ -1,10 +1,10 @@
 -- A number in decimal is a line that is a number, and says that number.
 use Rattle.std.proofs.lemmas.Grind.{common_steps}
-use Rattle.std.proofs.Common.{◌≡◌, ◌≢◌, ℕ, ◌^◌, ◌<◌, true, not, eqb, ne_eqb, List, [], ◌∷◌, length, get_or, decimal, arith}
+use Rattle.std.proofs.Common.{◌≡◌, ◌≢◌, ℕ, ◌^◌, ◌<◌, true, not, eqb, List, [], ◌∷◌, length, get_or, decimal, arith}
 use Rattle.std.specs.Str.{all_ascii_digits}
 use Rattle.std.specs.Str.Parse.{digits_value}
 use Rattle.std.proofs.lemmas.List.Elements.{All-from_get_or}
-use Rattle.std.proofs.lemmas.Bool.{and_parts, and_from, not-true, not_from_false, cases_eq}
+use Rattle.std.proofs.lemmas.Bool.{and_parts, not-true, cases_eq}
 use Rattle.std.proofs.lemmas.Str.Parse.{IsNumeralModel, numerals_by_value, tells_all_ascii_digits, digit_at}
 use Rattle.std.proofs.lemmas.Fmt.{digits_decimal, digits_value-decimal, decimal_nonempty, first_decimal, decimal_digit, decimal-digits_value}
 use Rattle.intaglio_lines.specs.Decoded.{IsLine}
@@ -19,9 +19,7 @@ pub is_number-from_digits : (ds : List ℕ) → all_ascii_digits ds ≡ true →
     (get_or ds 0 0 ≡ 48 → length ds ≡ 1) → is_number ds ≡ true
 is_number-from_digits [] all some first = absurd (omega arith)
 is_number-from_digits (d ∷ []) all some first = all
-is_number-from_digits (d ∷ e ∷ more) all some first =
-    and_from (not (eqb d 48)) (all_ascii_digits (d ∷ e ∷ more))
-    (not_from_false (eqb d 48) (ne_eqb d 48 (λ zero. absurd (omega (arith, first zero))))) all
+is_number-from_digits (d ∷ e ∷ more) all some first = grind (arith, common_steps, all, first)
 
 pub record IsNumber (ds : List ℕ) : Type 0 where
   pub all : all_ascii_digits ds ≡ true
@@ -32,9 +30,7 @@ pub record IsNumber (ds : List ℕ) : Type 0 where
 pub digits-from_number : (ds : List ℕ) → is_number ds ≡ true → IsNumber ds
 digits-from_number [] is = cc
 digits-from_number (d ∷ []) is = record { all = is; some = omega arith; first = λ _. omega arith }
-digits-from_number (d ∷ e ∷ more) is =
-    let parts = and_parts (not (eqb d 48)) (all_ascii_digits (d ∷ e ∷ more)) is in
-    record { all = parts.1; some = omega arith; first = λ zero. grind (arith, common_steps, not-true, parts.0) }
+digits-from_number (d ∷ e ∷ more) is = grind (arith, common_steps, and_parts (not (eqb d 48)) (all_ascii_digits (d ∷ e ∷ more)) is, not-true)
 
 -- a number below 2 ^ 64 begins with 0 in decimal only if that is its only digit
 decimal-first : (n : ℕ) → n < 2 ^ 64 → get_or (decimal n) 0 0 ≡ 48 → length (decimal n) ≡ 1
@@ -51,9 +47,7 @@ number-decimal n small = digits_value-decimal digits n small
 -- and a line that is a number is that number in decimal
 pub decimal-number : (ds : List ℕ) → is_number ds ≡ true → digits_value 10 ds < 2 ^ 64 →
     decimal (digits_value 10 ds) ≡ ds
-decimal-number ds is small =
-    let parts = digits-from_number ds is in
-    decimal-digits_value digits ds parts.all parts.some parts.first small
+decimal-number ds is small = grind (arith, common_steps, digits-from_number ds is, decimal-digits_value digits ds)
 
 -- digits hold no byte 10
 pub IsLine-digits : (ds : List ℕ) → all_ascii_digits ds ≡ true → IsLine ds

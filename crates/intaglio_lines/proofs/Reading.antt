@@ -39,17 +39,11 @@ decimals P go (n ∷ symbols) small = (go n small.0, decimals P go symbols small
 lines-decimal : (symbols : List ℕ) → AreSmall symbols → AllByRecursion IsLine (map decimal symbols)
 lines-decimal = decimals IsLine (λ n small. IsLine-digits (decimal n) (digits-from_number (decimal n) (is_number-decimal n small)).all)
 
--- what holds of each item of two lists holds of each item of the first with the second behind it
-all-append : {X : Type 0} (P : X → Type 0) (xs ys : List X) → AllByRecursion P xs → AllByRecursion P ys →
-    AllByRecursion P (xs ++ ys)
-all-append P [] ys front back = back
-all-append P (x ∷ xs) ys front back = (front.0, all-append P xs ys front.1 back)
-
 -- if numbers fit 64 bits and spellings are lines, both, with an empty one between, are their output's lines
 lines_of-output : (symbols : List ℕ) (spellings : List (List ℕ)) → AreSmall symbols →
     AllByRecursion IsLine spellings
     → lines_of (output_of symbols spellings) ≡ output_lines symbols spellings
-lines_of-output symbols spellings small lines = grind (arith, common_steps, output-lines, lines_of-flat_map, all-append, decimal, lines-decimal, All-nil (λ (byte : ℕ). byte ≢ 10))
+lines_of-output symbols spellings small lines = grind (arith, common_steps, output-lines, lines_of-flat_map, decimal, lines-decimal, All-nil (λ (byte : ℕ). byte ≢ 10))
 
 -- the first empty line of lines
 abbrev AreWritten : List (List ℕ) → Type 0
@@ -65,19 +59,11 @@ first-blank : (front back : List (List ℕ)) → AreWritten front →
 first-blank [] back written = refl
 first-blank (line ∷ front) back written = rw (written.0, first-blank front back written.1) (omega arith)
 
--- if the lines in front of an empty one aren't empty, they are those before the first empty one
-pub before-blank : (front back : List (List ℕ)) → AreWritten front →
-    before_first is_blank (front ++ [] ∷ back) ≡ front
-before-blank front back written = grind (arith, common_steps, take_at, first-blank)
-
--- if the lines in front of an empty one aren't empty, those behind it are those after the first empty one
-pub after-blank : (front back : List (List ℕ)) → AreWritten front →
-    after_first is_blank (front ++ [] ∷ back) ≡ back
-after-blank front back written = rw (first-blank front back written) (drop-append-add front ([] ∷ back) 1)
-
--- where one of the lines is empty, the test for an empty line among them is true
-pub any-blank : (front back : List (List ℕ)) → list_any is_blank (front ++ [] ∷ back) ≡ true
-any-blank front back = grind (arith, common_steps, list_any-append is_blank front ([] ∷ back))
+-- if the lines in front of an empty one aren't empty, they are those before the first empty one, and those behind it
+-- are those after the first empty one, which there is
+blank : (front back : List (List ℕ)) → AreWritten front → (before_first is_blank (front ++ [] ∷ back) ≡ front)
+    × (after_first is_blank (front ++ [] ∷ back) ≡ back) × (list_any is_blank (front ++ [] ∷ back) ≡ true)
+blank front back written = grind (arith, common_steps, take_at, first-blank front back written, drop-append-add front ([] ∷ back) 1, list_any-append is_blank front ([] ∷ back))
 
 -- an output has at least as many bytes as spellings
 length-output : (symbols : List ℕ) (spellings : List (List ℕ)) →
@@ -88,15 +74,10 @@ pub record Reads (symbols : List ℕ) (spellings : List (List ℕ)) (bytes : Lis
   small : AreSmall symbols
   known : AllByRecursion (λ symbol. symbol < length spellings) symbols
   whole : bytes ≡ flat_map spelling_line (output_lines symbols spellings)
-  lines : lines_of bytes ≡ output_lines symbols spellings
-
--- fewer than 2 ^ 64 bytes that hold symbols and spellings are their lines, and the symbols fit 64 bits
-reads : (symbols : List ℕ) (spellings : List (List ℕ)) (bytes : List ℕ) → length bytes < 2 ^ 64 →
-    Holds symbols spellings bytes → Reads symbols spellings bytes
-reads symbols spellings bytes few holds =
-    let small : AreSmall symbols = recursion_from_All (λ n. n < 2 ^ 64) symbols (λ i d lt.
-    omega (arith, holds.known i d lt, length-output symbols spellings, ap length holds.whole)) in
-    grind (arith, common_steps, recursion_from_All, output-lines, lines_of-output)
+  symbols_read : map (digits_value 10) (symbol_lines bytes) ≡ symbols
+  front : symbol_lines bytes ≡ map decimal symbols
+  strings : spellings_of bytes ≡ spellings
+  any : list_any is_blank (lines_of bytes) ≡ true
 
 -- the number of each line
 numbers-decimal : (symbols : List ℕ) → AreSmall symbols →
@@ -104,15 +85,13 @@ numbers-decimal : (symbols : List ℕ) → AreSmall symbols →
 numbers-decimal [] small = refl
 numbers-decimal (n ∷ symbols) small = rw (number-decimal n small.0, numbers-decimal symbols small.1) refl
 
--- the numbers of an output's lines before the first empty one are its symbols
-reads-symbols : (symbols : List ℕ) (spellings : List (List ℕ)) (bytes : List ℕ) →
-    Reads symbols spellings bytes → map (digits_value 10) (symbol_lines bytes) ≡ symbols
-reads-symbols symbols spellings bytes read = grind (arith, common_steps, before-blank, decimal, written-decimal, numbers-decimal)
-
--- the lines of an output after the first empty one are its spellings
-reads-spellings : (symbols : List ℕ) (spellings : List (List ℕ)) (bytes : List ℕ) →
-    Reads symbols spellings bytes → spellings_of bytes ≡ spellings
-reads-spellings symbols spellings bytes read = grind (arith, common_steps, after-blank, decimal, written-decimal)
+-- fewer than 2 ^ 64 bytes that hold symbols and spellings are their lines, and the symbols fit 64 bits
+reads : (symbols : List ℕ) (spellings : List (List ℕ)) (bytes : List ℕ) → length bytes < 2 ^ 64 →
+    Holds symbols spellings bytes → Reads symbols spellings bytes
+reads symbols spellings bytes few holds =
+    let small : AreSmall symbols = recursion_from_All (λ n. n < 2 ^ 64) symbols (λ i d lt.
+    omega (arith, holds.known i d lt, length-output symbols spellings, ap length holds.whole)) in
+    grind (arith, common_steps, recursion_from_All, output-lines, lines_of-output, blank (map decimal symbols) spellings (written-decimal symbols small), numbers-decimal symbols small)
 
 -- bytes are read in one way
 pub one-reading : (bytes symbols others : List ℕ) (spellings strings : List (List ℕ)) → length bytes < 2 ^ 64
@@ -120,7 +99,7 @@ pub one-reading : (bytes symbols others : List ℕ) (spellings strings : List (L
 one-reading bytes symbols others spellings strings few left right =
     let a = reads symbols spellings bytes few left in
     let b = reads others strings bytes few right in
-    grind (arith, common_steps, reads-symbols symbols spellings bytes a, reads-symbols others strings bytes b, reads-spellings symbols spellings bytes a, reads-spellings others strings bytes b)
+    grind (arith, common_steps, a.symbols_read, b.symbols_read, a.strings, b.strings)
 
 -- and decoded in one way
 pub one-output : (bytes output other : List ℕ) → length bytes < 2 ^ 64 → Decodes bytes output →
@@ -139,7 +118,7 @@ pub no-fault : (bytes symbols : List ℕ) (spellings : List (List ℕ)) → leng
     Holds symbols spellings bytes → fault_of bytes ≡ None
 no-fault bytes symbols spellings few holds =
     let read = reads symbols spellings bytes few holds in
-    grind (arith, common_steps, read.lines, any-blank (map decimal symbols) spellings, before-blank (map decimal symbols) spellings (written-decimal symbols read.small), read.whole, is_ended-flat_map (output_lines symbols spellings), reads-spellings symbols spellings bytes read, first-right (length spellings) 1 symbols read.small read.known)
+    grind (arith, common_steps, read.any, read.front, read.whole, is_ended-flat_map (output_lines symbols spellings), read.strings, first-right (length spellings) 1 symbols read.small read.known)
 
 -- if lines have no fault under a count, each is a number below the count
 pub known-lines : (count number : ℕ) (lines : List (List ℕ)) → first_fault (Some count) number lines ≡ None →
@@ -171,11 +150,6 @@ pub at-blank : (lines : List (List ℕ)) → list_any is_blank lines ≡ true �
     lines ≡ before_first is_blank lines ++ [] ∷ after_first is_blank lines
 at-blank lines any = grind (arith, common_steps, any-place lines any, passes_at_first is_blank lines [], split_at_first is_blank lines [], nil_from_length, eqb-true)
 
--- what holds of each item of a list with another behind it holds of each item of that other
-all-back : {X : Type 0} (P : X → Type 0) (xs ys : List X) → AllByRecursion P (xs ++ ys) → AllByRecursion P ys
-all-back P [] ys all = all
-all-back P (x ∷ xs) ys all = all-back P xs ys all.1
-
 -- what has no fault has none in its symbols, an empty line, and an ended last line
 fault-none : (bytes : List ℕ) → fault_of bytes ≡ None → (first_fault (spelling_count bytes) 1 (symbol_lines bytes) ≡ None)
     × (list_any is_blank (lines_of bytes) ≡ true) × (is_ended bytes ≡ true)
@@ -184,13 +158,10 @@ fault-none bytes none = grind (arith, common_steps)
 -- what has no fault holds the numbers of its lines, and its strings
 pub holds-read : (bytes : List ℕ) → length bytes < 2 ^ 64 → fault_of bytes ≡ None →
     Holds (map (digits_value 10) (symbol_lines bytes)) (spellings_of bytes) bytes
-holds-read bytes few none = grind (arith, common_steps, fault-none bytes none, known-lines, at-blank, length-lines_of, length-drop, decimal, decimal-lines, flat_map-lines_of, output-lines, all-back, append_assoc, lines_of-are_lines, known-numbers)
+holds-read bytes few none = grind (arith, common_steps, fault-none bytes none, known-lines, at-blank, length-lines_of, length-drop, decimal, decimal-lines, flat_map-lines_of, output-lines, append_assoc, lines_of-are_lines, known-numbers)
 
 -- fewer than 2 ^ 64 bytes have no fault exactly if they hold some symbols and spellings
 pub faults-exact : (bytes : List ℕ) → length bytes < 2 ^ 64
     → (fault_of bytes ≡ None) ↔
     ((symbols : List ℕ) × (spellings : List (List ℕ)) × Holds symbols spellings bytes)
-faults-exact bytes few = (
-  λ none. (map (digits_value 10) (symbol_lines bytes), spellings_of bytes, holds-read bytes few none),
-  λ held. no-fault bytes held.0 held.1 few held.2,
-)
+faults-exact bytes few = (λ none. (_, _, holds-read bytes few none), λ held. no-fault bytes held.0 held.1 few held.2)

@@ -1,25 +1,19 @@
 -- What is written for a list of contents, one after the other.
 use Rattle.std.proofs.lemmas.Grind.{common_steps}
-use Rattle.std.proofs.Common.{arith, ◌≡◌, ℕ, suc, zero, ◌+◌, add-one, List, [], ◌∷◌, ◌++◌, take, map, Option, Some, refl, sym, ap}
+use Rattle.std.proofs.Common.{arith, ◌≡◌, ℕ, ◌+◌, add-one, List, [], ◌∷◌, ◌++◌, take, map, Option, Some, sym}
 use Rattle.std.specs.List.{slice_get, flat_map}
 use Rattle.std.specs.Option.{option_map}
 use Rattle.std.specs.Io.KnownBytes.{Appends}
-use Rattle.std.proofs.lemmas.List.{append-nil, map-append}
+use Rattle.std.proofs.lemmas.List.{append-nil, map-append, take_more}
+use Rattle.std.proofs.lemmas.Option.{slice_get_within, get_or_from_slice_get}
 use Rattle.std.proofs.lemmas.Grind.{flat_map-append}
 use Rattle.intaglio_interner.proofs.Laws.{mapped-some}
 use Rattle.intaglio_lines.proofs.Appended.{Appends-append}
 
--- the first n + 1 items of a list are the first n and the one at position n
-take-next : {C : Type 0} (cs : List C) (n : ℕ) (c : C) → slice_get cs n ≡ Some c →
-    take (suc n) cs ≡ take n cs ++ c ∷ []
-take-next [] n c at = cc
-take-next (x ∷ xs) zero c at = let same : x ≡ c = cc in rw same refl
-take-next (x ∷ xs) (suc n) c at = ap (λ t. x ∷ t) (take-next xs n c at)
-
 module _ {C : Type 0} (f : List ℕ → List ℕ) (spelling : C → List ℕ) (cs : List C) (n : ℕ) where
   flat_map-next : (c : C) → slice_get cs n ≡ Some c →
       flat_map f (map spelling (take (n + 1) cs)) ≡ flat_map f (map spelling (take n cs)) ++ f (spelling c)
-  flat_map-next c at = grind (arith, common_steps, take-next cs n c at, map-append spelling (take n cs) (c ∷ []), flat_map-append f (map spelling (take n cs)) (spelling c ∷ []), append-nil, add-one)
+  flat_map-next c at = grind (arith, common_steps, at, slice_get_within cs n c at, get_or_from_slice_get cs n c c at, take_more cs n c, map-append spelling (take n cs) (c ∷ []), flat_map-append f (map spelling (take n cs)) (spelling c ∷ []), append-nil, add-one)
 
   -- the lines so far, and that of one content more
   pub appends-next : (old mid new : Option (List ℕ)) (line : List ℕ) →

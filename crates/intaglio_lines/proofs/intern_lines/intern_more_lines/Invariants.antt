@@ -6,22 +6,21 @@ use Rattle.intaglio_lines.specs.Lines.{lines_of}
 use Rattle.intaglio_lines.proofs.intern_lines.intern_more_lines.Given as goal
 
 abbrev pub invariant-loop-rest : goal.invariant-loop-rest
-invariant-loop-rest g l = record {
-  allowed : g.T.Content.FromLine.allows l.rest;
-  symbols : l.initial.symbols.items ++ issue_from g.T.Content.Content.key_of
-      (map g.T.Content.Content.spelling (g.T.BaseInterner.state l.initial.table).contents) (lines_of l.input)
-      ≡ l.symbols.items ++ issue_from g.T.Content.Content.key_of
-      (map g.T.Content.Content.spelling (g.T.BaseInterner.state l.table).contents) (lines_of l.rest);
-  held : interned_all g.T.Content.Content.key_of
-      (map g.T.Content.Content.spelling (g.T.BaseInterner.state l.initial.table).contents) (lines_of l.input)
-      ≡ interned_all g.T.Content.Content.key_of
-      (map g.T.Content.Content.spelling (g.T.BaseInterner.state l.table).contents) (lines_of l.rest);
-  limit : (g.T.BaseInterner.state l.table).limit ≡ (g.T.BaseInterner.state l.initial.table).limit;
-  fit : position_or_len (λ x. not (g.T.Content.FromLine.fits x)) (lines_of l.input)
-      ≡ l.number + position_or_len (λ x. not (g.T.Content.FromLine.fits x)) (lines_of l.rest);
-  count : length (lines_of l.input) ≡ l.number + length (lines_of l.rest);
-  room : l.number + length l.rest ≤ length l.input;
-}
+invariant-loop-rest g l =
+    let key = g.T.Content.Content.key_of in
+    let old = map g.T.Content.Content.spelling (g.T.BaseInterner.state l.initial.table).contents in
+    let new = map g.T.Content.Content.spelling (g.T.BaseInterner.state l.table).contents in
+    record {
+      allowed : g.T.Content.FromLine.allows l.rest;
+      symbols : l.initial.symbols.items ++ issue_from key old (lines_of l.input)
+          ≡ l.symbols.items ++ issue_from key new (lines_of l.rest);
+      held : interned_all key old (lines_of l.input) ≡ interned_all key new (lines_of l.rest);
+      limit : (g.T.BaseInterner.state l.table).limit ≡ (g.T.BaseInterner.state l.initial.table).limit;
+      fit : position_or_len (λ x. not (g.T.Content.FromLine.fits x)) (lines_of l.input)
+          ≡ l.number + position_or_len (λ x. not (g.T.Content.FromLine.fits x)) (lines_of l.rest);
+      count : length (lines_of l.input) ≡ l.number + length (lines_of l.rest);
+      room : l.number + length l.rest ≤ length l.input;
+    }
 
 abbrev pub decreases-loop-rest : goal.decreases-loop-rest
 decreases-loop-rest g l = length l.rest
