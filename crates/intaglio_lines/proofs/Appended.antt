@@ -46,9 +46,9 @@ held-nothing (Some x) None bytes put = absurd put
 held-nothing (Some x) (Some y) bytes put = rw (append-nil x) put
 
 -- a front of bytes is one of more bytes
-pub front-more : (old new : Option (List ℕ)) (bytes more : List ℕ) → IsFront old new bytes →
+pub front_more : (old new : Option (List ℕ)) (bytes more : List ℕ) → IsFront old new bytes →
     IsFront old new (bytes ++ more)
-front-more old new bytes more front = (min front.0 (length bytes), rw (take-append-le (min front.0 (length bytes)) bytes more (omega arith), take_min front.0 bytes) front.1)
+front_more old new bytes more front = (min front.0 (length bytes), rw (take-append-le (min front.0 (length bytes)) bytes more (omega arith), take_min front.0 bytes) front.1)
 
 -- bytes were put to a block or written, and then the front of the block and of others
 pub front-then : (old mid new : Option (List ℕ)) (block later bytes more : List ℕ) →

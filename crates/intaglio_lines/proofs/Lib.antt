@@ -1,8 +1,6 @@
-pub mod FirstByte
 pub mod Appended
 pub mod LineCuts
 pub mod ByLines
 pub mod Numbers
 pub mod Reading
 pub mod Spellings
-pub mod Written

@@ -1,7 +1,7 @@
 -- The first line of bytes, and the lines of what stands after it.
 use Rattle.std.proofs.lemmas.Grind.{common_steps}
 use Rattle.std.proofs.Common.{◌≡◌, ℕ, ◌+◌, ◌-◌, ◌<◌, Some, None, take, drop, List, [], ◌∷◌, Bool, eqb, eqb-true, ◌++◌, refl, length, arith, rules}
-use Rattle.std.specs.List.{position, position_or_len, before_first, after_first}
+use Rattle.std.specs.List.{position, position_or_len}
 use Rattle.std.proofs.lemmas.List.Splits.{slice_split_first, slice_split_none, length-slice_split}
 use Rattle.std.proofs.lemmas.List.Sums.{fails_before_first, passes_at_first, split_at_first, prefix_len-le-length}
 use Rattle.std.proofs.lemmas.List.{take_rest}
@@ -28,24 +28,14 @@ pub position-None : (p : ℕ → Bool) (bs : List ℕ) → position p bs ≡ Non
 position-None p bs is = grind (arith, common_steps, prefix_len-le-length)
 
 -- where there is a byte 10, the first line ends at the first
-pub lines-first : (bs : List ℕ) → position_or_len (λ b. eqb b 10) bs < length bs
-    → lines_of bs ≡ before_first (λ b. eqb b 10) bs ∷ lines_of (after_first (λ b. eqb b 10) bs)
-lines-first bs h = grind (arith, common_steps, eqb, length-slice_split, slice_split_first, without_empty_last-cons)
-
--- where there is none, all of the bytes are the last line
-pub lines-last : (bs : List ℕ) → position_or_len (λ b. eqb b 10) bs ≡ length bs → 0 < length bs →
-    lines_of bs ≡ bs ∷ []
-lines-last bs h some = grind (arith, common_steps, eqb, fails_before_first, slice_split_none, without_empty_last-one)
-
--- the same of a list of bytes that is cut by the place of a byte 10
 pub lines-cut-at : (bs : List ℕ) (end : ℕ) → position (λ b. eqb b 10) bs ≡ Some end
     → lines_of bs ≡ take end bs ∷ lines_of (take (length bs - (end + 1)) (drop (end + 1) bs))
-lines-cut-at bs end is = grind (arith, common_steps, eqb, position-Some, take_rest, lines-first)
+lines-cut-at bs end is = grind (arith, common_steps, eqb, position-Some (λ b. eqb b 10) bs end is, take_rest, length-slice_split, slice_split_first, without_empty_last-cons)
 
 -- bytes without a byte 10, of which there is one at least, are one line
 pub lines-cut-nowhere : (bs : List ℕ) → position (λ b. eqb b 10) bs ≡ None → 0 < length bs →
     lines_of bs ≡ bs ∷ []
-lines-cut-nowhere bs is some = lines-last bs (position-None (λ b. eqb b 10) bs is) some
+lines-cut-nowhere bs is some = grind (arith, common_steps, eqb, position-None (λ b. eqb b 10) bs is, fails_before_first, slice_split_none, without_empty_last-one)
 
 -- the first line, its byte 10 and the rest are all of the bytes
 pub whole-cut-at : (bs : List ℕ) (end : ℕ) → position (λ b. eqb b 10) bs ≡ Some end

@@ -59,7 +59,7 @@ where
 /// # Errors
 ///
 /// Those of [`intern_lines`]. Lines before the one that failed may be stored then.
-#[tactic(auto, using(crate::proofs::Spellings::group_symbols, crate::proofs::Spellings::group_held, crate::proofs::Spellings::group_over, std::proofs::lemmas::Grind::common_steps))]
+#[tactic(auto, using(crate::proofs::Spellings::groups, std::proofs::lemmas::Grind::common_steps))]
 pub fn intern_more_lines<'a, T: BaseInterner>(
     alloc: Global,
     table: &mut T,

@@ -104,6 +104,7 @@ pub fn put_number<W: Write>(number: u64, block: &mut Vec<u8>, writer: &mut W) ->
 /// # Errors
 ///
 /// Those of the writer.
+#[tactic(auto, using(crate::proofs::Appended::front_more))]
 pub fn put<W: Write>(piece: &[u8], block: &mut Vec<u8>, writer: &mut W) -> io::Result<()>
     ensures put { OnOk result (Puts W.contents writer.old block.old writer.new block.new piece.now) }
     ensures front { WritesFront W.contents writer.old writer.new (block.old.items ++ piece.now) }
