@@ -10,22 +10,14 @@ use Rattle.std.proofs.lemmas.Int.Digits.{digits_more, digits_value_more}
 use Rattle.std.proofs.lemmas.Str.Parse.{digit_at}
 use Rattle.intaglio_lines.proofs.Numbers.{digits}
 
--- a digit is its place behind `0`
-digit-range : (b : ℕ) → is_ascii_digit b ≡ true → (48 ≤ b) × (b ≤ 57)
-digit-range b is = grind (arith, common_steps)
-
 -- the value of a digit is how far it is behind `0`
 digit-value : (b : ℕ) → is_ascii_digit b ≡ true → digit_value b ≡ b - 48
 digit-value b is = grind (arith, common_steps)
 
--- a byte that is no digit isn't from 48 to 57
-digit-other : (b : ℕ) → is_ascii_digit b ≡ false → (48 ≤ b) × (b ≤ 57) → ⊥
-digit-other b is range = grind (arith, common_steps)
-
 -- one digit more
 pub more_digits : (bs : List ℕ) (i : ℕ) → i < length bs → is_ascii_digit (get_or bs i 0) ≡ true →
     AllDigits 10 (take i bs) → AllDigits 10 (take (i + 1) bs)
-more_digits bs i within is all = grind (arith, common_steps, digit-range, digits_more, digit-value)
+more_digits bs i within is all = grind (arith, common_steps, digits_more, digit-value)
 
 -- ten times the value so far, plus the next digit, is the value with that digit, all cut at 2 ^ 64 - 1
 pub more_value : (bs : List ℕ) (i value : ℕ) → i < length bs → is_ascii_digit (get_or bs i 0) ≡ true →
@@ -38,7 +30,7 @@ more_value bs i value within is so =
 -- where one byte is no digit, not all are
 pub not_digits : (bs : List ℕ) (i : ℕ) → i < length bs → is_ascii_digit (get_or bs i 0) ≡ false →
     all_ascii_digits bs ≡ false
-not_digits bs i within other = grind (arith, common_steps, false_from_ne_true, digit-other, digit_at, digits)
+not_digits bs i within other = grind (arith, common_steps, false_from_ne_true, digit_at, digits)
 
 -- if the first i bytes are digits and there are no more than i, all bytes are digits
 pub digits_all : (bs : List ℕ) (i : ℕ) → length bs ≤ i → AllDigits 10 (take i bs) → all_ascii_digits bs ≡ true

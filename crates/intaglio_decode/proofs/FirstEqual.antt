@@ -1,7 +1,6 @@
 -- What is encoded is decoded to each line in the first spelling that is equal to it.
-use Rattle.std.proofs.Common.{◌≡◌, ◌∙◌, sym, ap, refl, ℕ, ◌<◌, List, [], ◌∷◌, ◌++◌, length, map, find, get_or, Option, Some, None, option_map, unwrap_or, append-nil, append_assoc, arith}
+use Rattle.std.proofs.Common.{◌≡◌, sym, ap, refl, ℕ, ◌<◌, List, [], ◌∷◌, ◌++◌, length, map, find, get_or, Option, Some, option_map, unwrap_or, append-nil, append_assoc, arith}
 use Rattle.std.proofs.lemmas.Grind.{common_steps}
-use Rattle.std.specs.Option.{option_or}
 use Rattle.std.specs.List.{flat_map, All, AllByRecursion}
 use Rattle.std.proofs.lemmas.List.{length-map}
 use Rattle.std.proofs.lemmas.List.Elements.{All-from_recursion, All-nil, All-push}
@@ -19,11 +18,6 @@ use Rattle.intaglio_lines.specs.Decoded.{IsLine, Holds, Decodes}
 use Rattle.intaglio_decode.specs.Laws.{first_equal, first_spellings}
 use Rattle.intaglio_lines.proofs.ByLines.{lines_of-are_lines, lines_of-flat_map}
 
--- an option, or else nothing, is the option
-or-none : {A : Type 0} (o : Option A) → option_or o None ≡ o
-or-none None = refl
-or-none (Some x) = refl
-
 module _ (key : List ℕ → Key) where
   -- the first of the spellings with a key
   abbrev found : List (List ℕ) → Key → Option (List ℕ)
@@ -38,7 +32,7 @@ module _ (key : List ℕ → Key) where
   -- a spelling that is interned finds what it finds behind those held
   found-interned : (held : List (List ℕ)) (c : List ℕ) (k : Key) →
       found (interned key held c) k ≡ found (held ++ c ∷ []) k
-  found-interned held c k = grind (arith, common_steps, find-append, key_eq-decides (key c) k, found-first held (key c), found-first held k, or-none)
+  found-interned held c k = grind (arith, common_steps, find-append, key_eq-decides (key c) k, found-first held (key c), found-first held k)
 
   found-all : (held cs : List (List ℕ)) (k : Key) → found (interned_all key held cs) k ≡ found (held ++ cs) k
   found-all held [] k = ap (λ t. found t k) (sym (append-nil held))
@@ -89,8 +83,7 @@ module _ (key : List ℕ → Key) where
         symbols = issue key lines;
         spellings = all;
         holds = holds-encoded input;
-        same = ap (flat_map spelling_line) (sym (issued-spellings lines all [] lines (found-all [] lines) refl))
-            ∙ flat_map-map spelling_line (λ n. get_or all n []) (issue key lines);
+        same = grind (arith, common_steps, issued-spellings lines all [] lines (found-all [] lines) refl, flat_map-map spelling_line (λ n. get_or all n []) (issue key lines));
       }
 
   -- what is found is a line with the key, as what it is sought for
