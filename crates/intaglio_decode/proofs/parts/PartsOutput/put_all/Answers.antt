@@ -8,19 +8,15 @@ use Rattle.intaglio_decode.proofs.parts.PartsOutput.put_all.Goals as goal
 
 pub unwrap-symbol-requires : goal.unwrap-symbol-requires
 unwrap-symbol-requires g c =
-    grind (
-      arith,
-      common_steps,
-      rw (symbol_lines-more c.loop-rest.rest.now _ c.first_line.result.1.now c.first_line.ensures.lines
-          (sym c.is_empty-in-loop-rest.ensures ∙ c.if-is_empty.false)) at c.loop-rest.invariant.known,
-    )
+    let more = symbol_lines-more c.loop-rest.rest.now _ c.first_line.result.1.now c.first_line.ensures.lines
+    (sym c.is_empty-in-loop-rest.ensures ∙ c.if-is_empty.false) in
+    grind (arith, common_steps, rw more at c.loop-rest.invariant.known)
 
 pub spelling-requires : goal.spelling-requires
 spelling-requires g c =
     let more = symbol_lines-more c.loop-rest.rest.now _ c.first_line.result.1.now c.first_line.ensures.lines
     (sym c.is_empty-in-loop-rest.ensures ∙ c.if-is_empty.false) in
-    let known = rw more at c.loop-rest.invariant.known in
-    grind (arith, common_steps, known, length-map, c.args.self.now.spellings.ok.0)
+    grind (arith, common_steps, rw more at c.loop-rest.invariant.known, length-map, c.args.self.now.spellings.ok.0)
 
 pub loop-rest-preserved : goal.loop-rest-preserved
 loop-rest-preserved g c =
