@@ -7,7 +7,7 @@ use Rattle.std.proofs.lemmas.Str.Ascii.{IsAscii-cons, IsAscii-nil}
 use Rattle.std.proofs.lemmas.Str.{IsUtf8-nil, IsUtf8-append, IsUtf8-from_ascii}
 use Rattle.std.proofs.lemmas.List.Splits.{slice_split_at, slice_split_none, length-slice_split}
 use Rattle.std.proofs.lemmas.List.Elements.{All-nil, All-cons, All-append}
-use Rattle.std.proofs.lemmas.Bool.{cases_eq, true≢false}
+use Rattle.std.proofs.lemmas.Bool.{cases_eq}
 use Rattle.intaglio_lines.specs.Cuts.{IsUtf8-parts}
 use Rattle.intaglio_lines.specs.Lines.{lines_of}
 use Rattle.intaglio_lines.specs.Output.{spelling_line}
@@ -130,7 +130,7 @@ pub texts : (front rest : List ℕ) → is_ended front ≡ true → IsUtf8 (fron
 texts front rest =
     by_lines (λ front. is_ended front ≡ true → IsUtf8 (front ++ rest) → IsUtf8 front × IsUtf8 rest)
     (λ ended text. (IsUtf8-nil, text))
-    (λ line some is ended. absurd (true≢false (sym ended ∙ is_ended-line line some is)))
+    (λ line some is ended. grind (arith, common_steps, is_ended-line line some is))
     (λ line more is parts ended text.
     let cut = IsUtf8-parts line (more ++ rest) (rw (append_assoc line (10 ∷ more) rest) at text) in
     let both = parts (sym (is_ended-more line more) ∙ ended) cut.1 in

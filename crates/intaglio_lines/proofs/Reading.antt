@@ -126,18 +126,14 @@ pub known-lines : (count number : ℕ) (lines : List (List ℕ)) → first_fault
 known-lines count number [] none = tt
 known-lines count number (line ∷ lines) none = grind (arith, common_steps, known-lines count (number + 1) lines, ltb-true (digits_value 10 line) count)
 
--- lines that are numbers below a count are these numbers in decimal, if the count fits 64 bits
-decimal-lines : (count : ℕ) (lines : List (List ℕ)) → count < 2 ^ 64 → AreKnown count lines →
-    map decimal (map (digits_value 10) lines) ≡ lines
-decimal-lines count [] few known = refl
-decimal-lines count (line ∷ lines) few known =
-    rw (decimal-number line known.0.0 (omega (arith, known.0.1)), decimal-lines count lines few known.1) refl
-
--- the numbers of lines that are known under a count are below it
-known-numbers : (count : ℕ) (lines : List (List ℕ)) → AreKnown count lines →
-    AllByRecursion (λ symbol. symbol < count) (map (digits_value 10) lines)
-known-numbers count [] known = tt
-known-numbers count (line ∷ lines) known = (known.0.1, known-numbers count lines known.1)
+-- lines that are numbers below a count are these numbers in decimal, if the count fits 64 bits, and these are below it
+known-decimals : (count : ℕ) (lines : List (List ℕ)) → count < 2 ^ 64 → AreKnown count lines →
+    (map decimal (map (digits_value 10) lines) ≡ lines)
+    × AllByRecursion (λ symbol. symbol < count) (map (digits_value 10) lines)
+known-decimals count [] few known = (refl, tt)
+known-decimals count (line ∷ lines) few known =
+    let go = known-decimals count lines few known.1 in
+    (rw (decimal-number line known.0.0 (omega (arith, known.0.1)), go.0) refl, (known.0.1, go.1))
 
 -- if one of the lines is empty, the first empty one is within the lines
 any-place : (lines : List (List ℕ)) → list_any is_blank lines ≡ true →
@@ -158,7 +154,7 @@ fault-none bytes none = grind (arith, common_steps)
 -- what has no fault holds the numbers of its lines, and its strings
 pub holds-read : (bytes : List ℕ) → length bytes < 2 ^ 64 → fault_of bytes ≡ None →
     Holds (map (digits_value 10) (symbol_lines bytes)) (spellings_of bytes) bytes
-holds-read bytes few none = grind (arith, common_steps, fault-none bytes none, known-lines, at-blank, length-lines_of, length-drop, decimal, decimal-lines, flat_map-lines_of, output-lines, append_assoc, lines_of-are_lines, known-numbers)
+holds-read bytes few none = grind (arith, common_steps, fault-none bytes none, known-lines, at-blank, length-lines_of, length-drop, decimal, known-decimals, flat_map-lines_of, output-lines, append_assoc, lines_of-are_lines)
 
 -- fewer than 2 ^ 64 bytes have no fault exactly if they hold some symbols and spellings
 pub faults-exact : (bytes : List ℕ) → length bytes < 2 ^ 64
