@@ -1,14 +1,11 @@
 -- The number that digits say, digit by digit.
-use Rattle.std.proofs.lemmas.Grind.{common_steps}
+use Rattle.intaglio_decode.proofs.Common.{common_steps, digits_value, AllDigits, take_all, digits}
 use Rattle.std.proofs.Common.{◌≡◌, subst, ℕ, ◌+◌, ◌*◌, ◌-◌, ◌^◌, ◌<◌, ◌≤◌, min, true, false, List, length, get_or, take, arith}
 use Rattle.std.specs.Char.{is_ascii_digit, digit_value}
 use Rattle.std.specs.Str.{all_ascii_digits}
-use Rattle.std.specs.Str.Parse.{digits_value, AllDigits}
-use Rattle.std.proofs.lemmas.List.{take_all}
 use Rattle.std.proofs.lemmas.Bool.{false_from_ne_true}
 use Rattle.std.proofs.lemmas.Int.Digits.{digits_more, digits_value_more}
 use Rattle.std.proofs.lemmas.Str.Parse.{digit_at}
-use Rattle.intaglio_lines.proofs.Numbers.{digits}
 
 -- the value of a digit is how far it is behind `0`
 digit-value : (b : ℕ) → is_ascii_digit b ≡ true → digit_value b ≡ b - 48

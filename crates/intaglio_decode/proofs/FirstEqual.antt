@@ -1,22 +1,7 @@
 -- What is encoded is decoded to each line in the first spelling that is equal to it.
 use Rattle.std.proofs.Common.{◌≡◌, sym, ap, refl, ℕ, ◌<◌, List, [], ◌∷◌, ◌++◌, length, map, find, get_or, Option, Some, option_map, unwrap_or, append-nil, append_assoc, arith}
-use Rattle.std.proofs.lemmas.Grind.{common_steps}
-use Rattle.std.specs.List.{flat_map, All, AllByRecursion}
-use Rattle.std.proofs.lemmas.List.{length-map}
-use Rattle.std.proofs.lemmas.List.Elements.{All-from_recursion, All-nil, All-push}
-use Rattle.std.proofs.lemmas.List.Folds.{find-append, flat_map-map}
-use Rattle.intaglio_content.specs.Key.{Key}
-use Rattle.intaglio_interner.specs.State.{key_eq, first}
-use Rattle.intaglio_interner.specs.Issue.{issued, interned, issue_from, issue, interned_all}
-use Rattle.intaglio_interner.proofs.First.{key_eq-decides, some-below}
+use Rattle.intaglio_decode.proofs.Common.{common_steps, flat_map, All, AllByRecursion, length-map, All-from_recursion, All-nil, All-push, find-append, flat_map-map, Key, key_eq, first, issued, interned, issue_from, issue, interned_all, key_eq-decides, some-below, issued-found, lines_of, spelling_line, encoded_by, IsLine, Holds, Decodes, first_equal, first_spellings, lines_of-are_lines, lines_of-flat_map}
 use Rattle.intaglio_interner.proofs.Held.{first-still}
-use Rattle.intaglio_interner.proofs.Laws.{issued-found}
-use Rattle.intaglio_lines.specs.Lines.{lines_of}
-use Rattle.intaglio_lines.specs.Output.{spelling_line}
-use Rattle.intaglio_lines.specs.Encoded.{encoded_by}
-use Rattle.intaglio_lines.specs.Decoded.{IsLine, Holds, Decodes}
-use Rattle.intaglio_decode.specs.Laws.{first_equal, first_spellings}
-use Rattle.intaglio_lines.proofs.ByLines.{lines_of-are_lines, lines_of-flat_map}
 
 module _ (key : List ℕ → Key) where
   -- the first of the spellings with a key

@@ -1,21 +1,7 @@
 -- What is decoded is encoded as before, where the symbols are issued in order and no two spellings are equal.
-use Rattle.std.proofs.lemmas.Grind.{common_steps}
+use Rattle.intaglio_decode.proofs.Common.{common_steps, All, AllByRecursion, length-map, map-append, length-take-le, get_or-map, take_more, take_all, All-map, recursion_from_All, flat_map-map, Key, State, first, Distinct, interned, issue_from, interned_all, first-some, some-below, cut-keeps, spelling_line, encoded_by, IsLine, Holds, decoded, AreInOrder, lines_of-flat_map}
 use Rattle.std.proofs.Common.{◌≡◌, refl, ℕ, ◌+◌, ◌<◌, ◌≤◌, max, List, [], ◌∷◌, length, map, take, get_or, Some, length-append, arith}
-use Rattle.std.specs.List.{All, AllByRecursion}
-use Rattle.std.proofs.lemmas.List.{length-map, map-append, length-take-le, get_or-map, take_more, take_all}
-use Rattle.std.proofs.lemmas.List.Elements.{All-map, recursion_from_All}
-use Rattle.std.proofs.lemmas.List.Folds.{flat_map-map}
-use Rattle.intaglio_content.specs.Key.{Key}
-use Rattle.intaglio_interner.specs.State.{State, first, Distinct}
-use Rattle.intaglio_interner.specs.Issue.{interned, issue_from, interned_all}
-use Rattle.intaglio_interner.proofs.First.{first-some, some-below}
-use Rattle.intaglio_interner.proofs.Laws.{cut-keeps}
 use Rattle.intaglio_core.proofs.Kept.{distinct-push}
-use Rattle.intaglio_lines.specs.Output.{spelling_line}
-use Rattle.intaglio_lines.specs.Encoded.{encoded_by}
-use Rattle.intaglio_lines.specs.Decoded.{IsLine, Holds, decoded}
-use Rattle.intaglio_decode.specs.Laws.{AreInOrder}
-use Rattle.intaglio_lines.proofs.ByLines.{lines_of-flat_map}
 
 -- a state with these contents
 abbrev holding : List (List ℕ) → State (List ℕ)

@@ -1,3 +1,5 @@
+-- What the proofs share.
+mod Common
 mod AllLaws
 pub mod Digits
 mod FirstEqual

@@ -1,9 +1,6 @@
 -- What was written, piece by piece.
-use Rattle.std.proofs.lemmas.Grind.{common_steps}
+use Rattle.intaglio_lines.proofs.Common.{common_steps, take-add, take-append-add, append_cancel_left, take-append-le, take_min, take_rest, Appends, Keeps, append_known}
 use Rattle.std.proofs.Common.{◌∙◌, sym, refl, ℕ, ◌+◌, ◌-◌, min, List, [], ◌++◌, length, take, drop, append_assoc, append-nil, Option, Some, None, arith}
-use Rattle.std.proofs.Math.Seq.{take-add, take-append-add}
-use Rattle.std.proofs.lemmas.List.{append_cancel_left, take-append-le, take_min, take_rest}
-use Rattle.std.specs.Io.KnownBytes.{Appends, Keeps, append_known}
 use Rattle.intaglio_lines.specs.Puts.{IsFront}
 
 -- two pieces are one

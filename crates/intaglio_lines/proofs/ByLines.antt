@@ -1,17 +1,9 @@
 -- What holds of the lines of bytes, line by line.
-use Rattle.std.proofs.lemmas.Grind.{common_steps}
+use Rattle.intaglio_lines.proofs.Common.{common_steps, flat_map, All, AllByRecursion, IsUtf8, slice_split_at, slice_split_none, length-slice_split, All-nil, All-cons, All-append, cases_eq, lines_of, spelling_line, IsLine, is_ended, with_last_line_ended}
 use Rattle.std.proofs.Common.{◌≡◌, ◌≢◌, ◌∙◌, sym, refl, subst, inl, inr, ℕ, suc, ◌<◌, ◌≤◌, true, false, eqb, ne_eqb, List, [], ◌∷◌, ◌++◌, length, append_assoc, append-nil, length-append, arith}
-use Rattle.std.specs.List.{flat_map, All, AllByRecursion}
-use Rattle.std.specs.Str.{IsUtf8}
 use Rattle.std.proofs.lemmas.Str.Ascii.{IsAscii-cons, IsAscii-nil}
 use Rattle.std.proofs.lemmas.Str.{IsUtf8-nil, IsUtf8-append, IsUtf8-from_ascii}
-use Rattle.std.proofs.lemmas.List.Splits.{slice_split_at, slice_split_none, length-slice_split}
-use Rattle.std.proofs.lemmas.List.Elements.{All-nil, All-cons, All-append}
-use Rattle.std.proofs.lemmas.Bool.{cases_eq}
 use Rattle.intaglio_lines.specs.Cuts.{IsUtf8-parts}
-use Rattle.intaglio_lines.specs.Lines.{lines_of}
-use Rattle.intaglio_lines.specs.Output.{spelling_line}
-use Rattle.intaglio_lines.specs.Decoded.{IsLine, is_ended, with_last_line_ended}
 use Rattle.intaglio_lines.proofs.LineCuts.{without_empty_last-cons, without_empty_last-one}
 
 module _ (P : List ℕ → Type 0) (nothing : P []) (last : (line : List ℕ) → 0 < length line →

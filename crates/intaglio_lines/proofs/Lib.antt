@@ -1,3 +1,5 @@
+-- What the proofs share.
+mod Common
 pub mod Appended
 pub mod LineCuts
 pub mod ByLines

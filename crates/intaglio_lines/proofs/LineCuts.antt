@@ -1,11 +1,6 @@
 -- The first line of bytes, and the lines of what stands after it.
-use Rattle.std.proofs.lemmas.Grind.{common_steps}
+use Rattle.intaglio_lines.proofs.Common.{common_steps, position, position_or_len, slice_split_first, slice_split_none, length-slice_split, fails_before_first, passes_at_first, split_at_first, prefix_len-le-length, take_rest, lines_of, without_empty_last}
 use Rattle.std.proofs.Common.{◌≡◌, ℕ, ◌+◌, ◌-◌, ◌<◌, Some, None, take, drop, List, [], ◌∷◌, Bool, eqb, eqb-true, ◌++◌, refl, length, arith, rules}
-use Rattle.std.specs.List.{position, position_or_len}
-use Rattle.std.proofs.lemmas.List.Splits.{slice_split_first, slice_split_none, length-slice_split}
-use Rattle.std.proofs.lemmas.List.Sums.{fails_before_first, passes_at_first, split_at_first, prefix_len-le-length}
-use Rattle.std.proofs.lemmas.List.{take_rest}
-use Rattle.intaglio_lines.specs.Lines.{lines_of, without_empty_last}
 
 -- only the last piece may go
 pub without_empty_last-cons : (x : List ℕ) (xs : List (List ℕ)) → 0 < length xs →

@@ -1,14 +1,8 @@
 -- A number in decimal is a line that is a number, and says that number.
-use Rattle.std.proofs.lemmas.Grind.{common_steps}
+use Rattle.intaglio_lines.proofs.Common.{common_steps, all_ascii_digits, digits_value, All-from_get_or, and_parts, not-true, cases_eq, IsLine, is_number}
 use Rattle.std.proofs.Common.{◌≡◌, ◌≢◌, ℕ, ◌^◌, ◌<◌, true, not, eqb, List, [], ◌∷◌, length, get_or, decimal, arith}
-use Rattle.std.specs.Str.{all_ascii_digits}
-use Rattle.std.specs.Str.Parse.{digits_value}
-use Rattle.std.proofs.lemmas.List.Elements.{All-from_get_or}
-use Rattle.std.proofs.lemmas.Bool.{and_parts, not-true, cases_eq}
 use Rattle.std.proofs.lemmas.Str.Parse.{IsNumeralModel, numerals_by_value, tells_all_ascii_digits, digit_at}
 use Rattle.std.proofs.lemmas.Fmt.{digits_decimal, digits_value-decimal, decimal_nonempty, first_decimal, decimal_digit, decimal-digits_value}
-use Rattle.intaglio_lines.specs.Decoded.{IsLine}
-use Rattle.intaglio_lines.specs.Fault.{is_number}
 
 -- a text of decimal digits, and the number that it says
 pub digits : IsNumeralModel (λ ds. all_ascii_digits ds ≡ true) (digits_value 10)

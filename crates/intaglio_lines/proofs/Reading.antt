@@ -1,18 +1,8 @@
 -- Bytes have no fault exactly if they hold symbols and spellings, and they hold them in one way.
-use Rattle.std.proofs.lemmas.Grind.{common_steps}
+use Rattle.intaglio_lines.proofs.Common.{common_steps, drop-append-add, flat_map, position_or_len, before_first, after_first, list_any, AllByRecursion, digits_value, take_at, nil_from_length, split_at_first, passes_at_first, All-nil, recursion_from_All, lines_of, spelling_line, output_of, IsLine, Holds, Decodes, is_ended, is_blank, symbol_lines, spellings_of, spelling_count, first_fault, fault_of, AreKnown}
 use Rattle.std.proofs.Common.{◌≢◌, ◌≡◌, ◌↔◌, ap, refl, ℕ, ◌+◌, ◌^◌, ◌<◌, ◌≤◌, true, false, lt-ltb, ltb-true, eqb-true, List, [], ◌∷◌, ◌++◌, length, map, decimal, Some, None, append_assoc, length-append, length-drop, arith}
-use Rattle.std.proofs.Math.Seq.{drop-append-add}
-use Rattle.std.specs.List.{flat_map, position_or_len, before_first, after_first, list_any, AllByRecursion}
-use Rattle.std.specs.Str.Parse.{digits_value}
-use Rattle.std.proofs.lemmas.List.{take_at, nil_from_length}
-use Rattle.std.proofs.lemmas.List.Sums.{split_at_first, passes_at_first}
 use Rattle.std.proofs.lemmas.List.Concat.{flat_map-append}
-use Rattle.std.proofs.lemmas.List.Elements.{All-nil, recursion_from_All}
 use Rattle.std.proofs.lemmas.List.Folds.{flat_map-map, list_any-append}
-use Rattle.intaglio_lines.specs.Lines.{lines_of}
-use Rattle.intaglio_lines.specs.Output.{spelling_line, output_of}
-use Rattle.intaglio_lines.specs.Decoded.{IsLine, Holds, Decodes, is_ended}
-use Rattle.intaglio_lines.specs.Fault.{is_blank, symbol_lines, spellings_of, spelling_count, first_fault, fault_of, AreKnown}
 use Rattle.intaglio_lines.proofs.ByLines.{lines_of-are_lines, length-lines_of, lines_of-flat_map, flat_map-lines_of, is_ended-flat_map, length-le-flat_map}
 use Rattle.intaglio_lines.proofs.Numbers.{digits-from_number, IsLine-digits, is_number-decimal, number-decimal, decimal-number}
 

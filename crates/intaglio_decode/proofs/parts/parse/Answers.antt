@@ -1,8 +1,6 @@
 -- Each symbol was checked against the count of spellings, and the last line is ended: so the bytes hold both.
-use Rattle.std.proofs.lemmas.Grind.{common_steps}
+use Rattle.intaglio_decode.proofs.Common.{common_steps, length-map, holds-read, known-lines}
 use Rattle.std.proofs.Common.{arith}
-use Rattle.std.proofs.lemmas.List.{length-map}
-use Rattle.intaglio_lines.proofs.Reading.{holds-read, known-lines}
 use Rattle.intaglio_decode.proofs.parts.parse.Goals as goal
 
 pub returns-clause-holds : goal.returns-clause-holds

@@ -1,12 +1,9 @@
 -- A turn adds the line of the spelling at its place to those before it.
-use Rattle.std.proofs.lemmas.Grind.{common_steps, flat_map-append}
+use Rattle.intaglio_lines.proofs.Common.{common_steps, flat_map-append, slice_get, flat_map, append-nil, map-append, take_more, spelling_line}
 use Rattle.std.proofs.Common.{◌≡◌, ◌∙◌, ◌+◌, ◌++◌, ◌∷◌, [], ℕ, List, Some, take, map, add-one, sym, ap, arith}
-use Rattle.std.specs.List.{slice_get, flat_map}
 use Rattle.std.specs.Option.{option_copied}
-use Rattle.std.proofs.lemmas.List.{append-nil, map-append, take_more}
 use Rattle.std.proofs.lemmas.Option.{slice_get_within, get_or_from_slice_get}
 use Rattle.intaglio_interner.proofs.Laws.{mapped-some}
-use Rattle.intaglio_lines.specs.Output.{spelling_line}
 use Rattle.intaglio_lines.proofs.Appended.{Appends-append}
 use Rattle.intaglio_lines.proofs.encoding.put_spellings.Goals as goal
 

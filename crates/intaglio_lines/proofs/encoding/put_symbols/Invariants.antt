@@ -1,8 +1,6 @@
 -- The lines of the symbols so far were put.
 use Rattle.std.proofs.Common.{take}
-use Rattle.std.specs.List.{flat_map}
-use Rattle.std.specs.Io.KnownBytes.{Appends, append_known}
-use Rattle.intaglio_lines.specs.Output.{number_line}
+use Rattle.intaglio_lines.proofs.Common.{flat_map, Appends, append_known, number_line}
 use Rattle.intaglio_lines.proofs.encoding.put_symbols.Given as goal
 
 abbrev pub invariant-loop-symbol : goal.invariant-loop-symbol

@@ -1,9 +1,6 @@
 -- `memchr` finds the first byte 10, and `position` is of the same byte.
 use Rattle.std.proofs.Common.{◌≡◌, ℕ, Bool, List, length, get_or, Option, None, Some, ◌==◌, arith}
-use Rattle.std.proofs.lemmas.Grind.{common_steps}
-use Rattle.std.proofs.lemmas.Bool.{false_from_ne_true}
-use Rattle.std.proofs.lemmas.List.Sums.{position_or_len_is}
-use Rattle.std.specs.List.{position}
+use Rattle.intaglio_lines.proofs.Common.{common_steps, false_from_ne_true, position_or_len_is, position}
 use Rattle.memchr.specs.Find.{IsFirstByte}
 use Rattle.intaglio_lines.proofs.lines.end_of_line.Goals as goal
 

@@ -1,8 +1,7 @@
 -- Each symbol is known, so its line is the spelling of its number, and what is put grows by that.
-use Rattle.std.proofs.lemmas.Grind.{common_steps}
+use Rattle.intaglio_decode.proofs.Common.{common_steps, length-map}
 use Rattle.std.proofs.Common.{◌∙◌, sym, arith}
 use Rattle.intaglio_lines.proofs.Appended.{Appends-append}
-use Rattle.std.proofs.lemmas.List.{length-map}
 use Rattle.intaglio_decode.proofs.Symbols.{symbol_lines-more}
 use Rattle.intaglio_decode.proofs.parts.PartsOutput.put_all.Goals as goal
 
