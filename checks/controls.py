@@ -101,14 +101,14 @@ def specs(path):
 
 
 def with_lemmas(crate, texts):
-    """These texts of a crate, and those of the files of lemmas that they reach (a file Common only passes names on)."""
+    """These texts of a crate, and those of the files of lemmas that they reach (a file Names only passes names on)."""
     texts, found = [*texts], {TOP}
     for text in texts:
         for other, places, _, own in LEMMAS.findall(text):
             path = TOP / "crates" / (other or crate) / "proofs"
             for part in (places or own).split("."):
                 file, path = path / f"{part}.antt", path / part
-                if part != "Common" and file not in found and file.is_file():
+                if part != "Names" and file not in found and file.is_file():
                     found.add(file)
                     texts.append(sources.text_of(file))
     return texts

@@ -1,6 +1,6 @@
 -- What adds a content with a key and a spelling is interned as the copy of a form.
 use Rattle.std.proofs.Common.{◌≡◌, ℕ, Bool, true, false, List, Option, Some, None, MatchOption, Result, Ok, Err, inr}
-use Rattle.intaglio.proofs.Common.{Key, IsPushed, State, first, AddsNew, InternsValue, InternsForm, IsOutOfMemory, InternError}
+use Rattle.intaglio.proofs.Names.{Key, IsPushed, State, first, AddsNew, InternsValue, InternsForm, IsOutOfMemory, InternError}
 use Rattle.intaglio_symbol.specs.declared.error.InternError.TheVariants as intern_error
 
 module _ {C : Type 0} (key : C → Key) (spelling : C → List ℕ) (adds : List C → List C →

@@ -1,7 +1,7 @@
 -- The laws that callers cite. Those from `below` are proved in `intaglio_interner`, and stated again here so
 -- that a crate that lists only `intaglio` finds them.
 use Rattle.std.proofs.Common.{◌≡◌, ◌≢◌, ◌∙◌, ap, refl, sym, arith, ℕ, zero, suc, ◌+◌, ◌<◌, List, [], ◌∷◌, ◌++◌, length, map, take, get_or, length-append, Option, Some, None, option_map, is_some, MatchOption, Result, Ok, slice_get, ◌↔◌, IsTrue, Contains, AllPairs}
-use Rattle.intaglio.proofs.Common.{length-map, map-append, same_Some, slice_get_within, Key, IsMoved, IsPushed, InternError, State, first_of, first, spelling_at, IsValid, Empties, IsAdded, IsAppended, Interns, IsCopyAppended, InternsForm, IsFound, FindsNothing, IsStored, Keeps, issue_from, interned_all, first-tells, none-each, some-below}
+use Rattle.intaglio.proofs.Names.{length-map, map-append, same_Some, slice_get_within, Key, IsMoved, IsPushed, InternError, State, first_of, first, spelling_at, IsValid, Empties, IsAdded, IsAppended, Interns, IsCopyAppended, InternsForm, IsFound, FindsNothing, IsStored, Keeps, issue_from, interned_all, first-tells, none-each, some-below}
 use Rattle.intaglio_interner.proofs.Laws as below
 use Rattle.intaglio.specs.Grows.{Grows, GrowsByForm}
 

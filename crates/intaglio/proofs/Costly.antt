@@ -1,5 +1,5 @@
 -- What is no cost of a search or of an interning.
-use Rattle.intaglio.proofs.Common.{common_steps, Key, State, AreDistinct}
+use Rattle.intaglio.proofs.Names.{common_steps, Key, State, AreDistinct}
 use Rattle.std.proofs.Common.{◌≡◌, ◌≢◌, ℕ, suc, ◌+◌, ◌<◌, List, [], ◌∷◌, ◌++◌, None, length, All, length-append, refl, ap, arith, Contains}
 use Rattle.std.proofs.lemmas.List.Elements.{All-nil, All-cons, All-head, All-tail, All-same}
 use Rattle.intaglio_content.specs.Work.{Event, hashed, compared, placed}

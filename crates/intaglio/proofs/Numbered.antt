@@ -2,7 +2,7 @@
 use Rattle.std.proofs.Common.{◌≡◌, ◌∙◌, refl, sym, ap, arith, ℕ, ◌+◌, ◌-◌, List, [], ◌∷◌, ◌++◌, length, map, None, length-append}
 use Rattle.std.proofs.Math.ListN.{get_or-append}
 use Rattle.std.proofs.Math.Seq.{get_or-append_seam}
-use Rattle.intaglio.proofs.Common.{append-nil, append_assoc, map-append, numbers_from, Key, first_of, first, AreDistinct, issued, interned, issue_from, interned_all, first-none}
+use Rattle.intaglio.proofs.Names.{append-nil, append_assoc, map-append, numbers_from, Key, first_of, first, AreDistinct, issued, interned, issue_from, interned_all, first-none}
 use Rattle.intaglio_symbol.proofs.NumbersLemmas.{numbers_from-none, numbers_from-first}
 
 -- a key at the seam of two lists that are distinct together isn't in the first one

@@ -1,6 +1,6 @@
 -- What a rollback to a mark restores, if every call since the mark kept the contents.
 use Rattle.std.proofs.Common.{◌≡◌, ◌≤◌, ◌∙◌, ap, refl, arith, List, length, take, Result, Ok, Err, IsOk}
-use Rattle.intaglio.proofs.Common.{length-take, Key, State, TakesBack, Keeps, keeps-front}
+use Rattle.intaglio.proofs.Names.{length-take, Key, State, TakesBack, Keeps, keeps-front}
 use Rattle.intaglio_symbol.specs.declared.error.StaleMark.{StaleMark}
 
 module _ {C : Type 0} (key : C → Key) where

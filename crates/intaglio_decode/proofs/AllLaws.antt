@@ -1,6 +1,6 @@
 -- The laws, from the lemmas on reading, on first equal lines and on symbols in order.
 use Rattle.std.proofs.Common.{◌≡◌, ◌≢◌, refl, List, ℕ, [], arith}
-use Rattle.intaglio_decode.proofs.Common.{lines_of, key_of, encoded, flat_map-lines_of, lines_of-are_lines, faults-exact, one-output, one-reading, FaultsAreExact, IsReadInOneWay, DecodingGivesFirstSpellings, DecodingGivesInput, EncodingKeepsInput, DecodingKeepsKeys, EncodingIsInOrder}
+use Rattle.intaglio_decode.proofs.Names.{lines_of, key_of, encoded, flat_map-lines_of, lines_of-are_lines, faults-exact, one-output, one-reading, FaultsAreExact, IsReadInOneWay, DecodingGivesFirstSpellings, DecodingGivesInput, EncodingKeepsInput, DecodingKeepsKeys, EncodingIsInOrder}
 use Rattle.intaglio_lines.specs.declared.kind.Kind.{Kind}
 use Rattle.intaglio_lines.specs.declared.kind.Kind.TheVariants.{Path}
 use Rattle.intaglio_decode.proofs.FirstEqual.{decodes-first, decoded-keys, firsts, holds-encoded}

@@ -1,5 +1,5 @@
 -- The number that digits say, digit by digit.
-use Rattle.intaglio_decode.proofs.Common.{common_steps, digits_value, AllDigits, take_all, digits}
+use Rattle.intaglio_decode.proofs.Names.{common_steps, digits_value, AllDigits, take_all, digits}
 use Rattle.std.proofs.Common.{◌≡◌, subst, ℕ, ◌+◌, ◌*◌, ◌-◌, ◌^◌, ◌<◌, ◌≤◌, min, true, false, List, length, get_or, take, arith}
 use Rattle.std.specs.Char.{is_ascii_digit, digit_value}
 use Rattle.std.specs.Str.{all_ascii_digits}

@@ -1,6 +1,6 @@
 -- What is encoded is decoded to each line in the first spelling that is equal to it.
 use Rattle.std.proofs.Common.{◌≡◌, sym, ap, refl, ℕ, ◌<◌, List, [], ◌∷◌, ◌++◌, length, map, find, get_or, Option, Some, option_map, unwrap_or, append-nil, append_assoc, arith}
-use Rattle.intaglio_decode.proofs.Common.{common_steps, flat_map, All, AllByRecursion, length-map, All-from_recursion, All-nil, All-push, find-append, flat_map-map, Key, key_eq, first, issued, interned, issue_from, issue, interned_all, key_eq-decides, some-below, issued-found, lines_of, spelling_line, encoded_by, IsLine, Holds, Decodes, first_equal, first_spellings, lines_of-are_lines, lines_of-flat_map}
+use Rattle.intaglio_decode.proofs.Names.{common_steps, flat_map, All, AllByRecursion, length-map, All-from_recursion, All-nil, All-push, find-append, flat_map-map, Key, key_eq, first, issued, interned, issue_from, issue, interned_all, key_eq-decides, some-below, issued-found, lines_of, spelling_line, encoded_by, IsLine, Holds, Decodes, first_equal, first_spellings, lines_of-are_lines, lines_of-flat_map}
 use Rattle.intaglio_interner.proofs.Held.{first-still}
 
 module _ (key : List ℕ → Key) where

@@ -1,5 +1,5 @@
 -- What is decoded is encoded as before, where the symbols are issued in order and no two spellings are equal.
-use Rattle.intaglio_decode.proofs.Common.{common_steps, All, AllByRecursion, length-map, map-append, length-take-le, get_or-map, take_more, take_all, All-map, recursion_from_All, flat_map-map, Key, State, first, Distinct, interned, issue_from, interned_all, first-some, some-below, cut-keeps, spelling_line, encoded_by, IsLine, Holds, decoded, AreInOrder, lines_of-flat_map}
+use Rattle.intaglio_decode.proofs.Names.{common_steps, All, AllByRecursion, length-map, map-append, length-take-le, get_or-map, take_more, take_all, All-map, recursion_from_All, flat_map-map, Key, State, first, Distinct, interned, issue_from, interned_all, first-some, some-below, cut-keeps, spelling_line, encoded_by, IsLine, Holds, decoded, AreInOrder, lines_of-flat_map}
 use Rattle.std.proofs.Common.{◌≡◌, refl, ℕ, ◌+◌, ◌<◌, ◌≤◌, max, List, [], ◌∷◌, length, map, take, get_or, Some, length-append, arith}
 use Rattle.intaglio_core.proofs.Kept.{distinct-push}
 

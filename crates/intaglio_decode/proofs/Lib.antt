@@ -1,5 +1,5 @@
 -- What the proofs share.
-mod Common
+mod Names
 mod AllLaws
 pub mod Digits
 mod FirstEqual

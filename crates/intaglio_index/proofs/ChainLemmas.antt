@@ -1,5 +1,5 @@
 -- The order of a bucket, by the hashes alone.
-use Rattle.intaglio_index.proofs.Common.{common_steps, Contains, AllByRecursion, cond_both, eqb-true, ltb-true, ltb-false, le-ltb, lt-ltb, eq-eqb, ne_eqb, get_or_at, append-nil, All-from_recursion, Contains-append_right, members, Placed, chain_from, places_from, insert_sorted, symbols_of, AreSorted, BeginsAtOrAbove, IsPredecessor, IsEntry, IsBucket}
+use Rattle.intaglio_index.proofs.Names.{common_steps, Contains, AllByRecursion, cond_both, eqb-true, ltb-true, ltb-false, le-ltb, lt-ltb, eq-eqb, ne_eqb, get_or_at, append-nil, All-from_recursion, Contains-append_right, members, Placed, chain_from, places_from, insert_sorted, symbols_of, AreSorted, BeginsAtOrAbove, IsPredecessor, IsEntry, IsBucket}
 use Rattle.std.proofs.Common.{◌≡◌, ◌≢◌, ℕ, zero, suc, ◌+◌, ◌<◌, ◌≤◌, ◌%◌, Bool, true, false, cond, List, [], ◌∷◌, ◌++◌, length, get_or, refl, sym, ap, ◌∙◌, arith, eqb, ltb, length-append, append_assoc}
 use Rattle.std.specs.List.{IsDistinct}
 use Rattle.std.specs.List.Sorted.{IsPermutation}

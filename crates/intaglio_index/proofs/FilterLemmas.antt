@@ -1,5 +1,5 @@
 -- What filters tell of the hashes that were placed.
-use Rattle.intaglio_index.proofs.Common.{common_steps, get_or-set_same, get_or-set_other, get_or_default, length-set, bit_at-zero, recursion_from_All, All-from_recursion, chain_from, IsMarked, IsFiltered}
+use Rattle.intaglio_index.proofs.Names.{common_steps, get_or-set_same, get_or-set_other, get_or_default, length-set, bit_at-zero, recursion_from_All, All-from_recursion, chain_from, IsMarked, IsFiltered}
 use Rattle.std.proofs.Common.{◌≡◌, ◌≢◌, ℕ, ◌<◌, ◌/◌, ◌%◌, ◌^◌, List, [], ◌∷◌, ◌++◌, length, get_or, set, take, ◌∙◌, arith, ap}
 use Rattle.intaglio_index.proofs.ChainLemmas.{Each-so, Each-append, chain-complete}
 

@@ -1,6 +1,6 @@
 -- What the words of a bucket's head tell, and how they change.
 use Rattle.std.proofs.Common.{◌≡◌, ◌≢◌, ◌↔◌, ℕ, ◌+◌, ◌^◌, ◌%◌, ◌<◌, ◌≤◌, take, List, [], ◌∷◌, ◌++◌, length, get_or, set, Option, Some, None, Bool, true, false, not, refl, sym, ap, ◌∙◌, arith, eqb, inl, inr, length-append}
-use Rattle.intaglio_index.proofs.Common.{AllByRecursion, is_some, eqb-false, true≢false, false≢true, eqb_tells, get_or-set_same, get_or-set_other, length-set, set-get_or, get_or_read, Head, Symbol, IsFiltered, IsMarked, IsThread, IsLinked, next_of, common_steps, Placed, IsEntry, chain_from, first_symbol_of, symbols_of, insert_sorted, IsPredecessor, IsWord, IsHead, IsHeaded}
+use Rattle.intaglio_index.proofs.Names.{AllByRecursion, is_some, eqb-false, true≢false, false≢true, eqb_tells, get_or-set_same, get_or-set_other, length-set, set-get_or, get_or_read, Head, Symbol, IsFiltered, IsMarked, IsThread, IsLinked, next_of, common_steps, Placed, IsEntry, chain_from, first_symbol_of, symbols_of, insert_sorted, IsPredecessor, IsWord, IsHead, IsHeaded}
 use Rattle.std.specs.List.{IsDistinct}
 use Rattle.intaglio_index.specs.declared.index.modulus.Modulus.{Modulus}
 use Rattle.intaglio_index.specs.Modulus.{IsModulus}

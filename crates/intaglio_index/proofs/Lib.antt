@@ -1,5 +1,5 @@
 -- What the proofs share.
-mod Common
+mod Names
 pub mod ChainLemmas
 pub mod FilterLemmas
 pub mod HeadLemmas

@@ -1,5 +1,5 @@
 -- Paths of links.
-use Rattle.intaglio_index.proofs.Common.{common_steps, option_map, AllByRecursion, eqb-false, eq-eqb, ne_eqb, eqb_tells, nil_from_length, get_or-set_same, get_or-set_other, get_or_append_left, get_or_push, get_or-take, length-set, length-take-le, Symbol, chain_from, head_of, first_symbol_of, symbols_of, BeginsAtOrAbove, IsPredecessor, IsEntry, insert_sorted, IsPath, IsThread, IsLinked, entry_of, target_of, next_of}
+use Rattle.intaglio_index.proofs.Names.{common_steps, option_map, AllByRecursion, eqb-false, eq-eqb, ne_eqb, eqb_tells, nil_from_length, get_or-set_same, get_or-set_other, get_or_append_left, get_or_push, get_or-take, length-set, length-take-le, Symbol, chain_from, head_of, first_symbol_of, symbols_of, BeginsAtOrAbove, IsPredecessor, IsEntry, insert_sorted, IsPath, IsThread, IsLinked, entry_of, target_of, next_of}
 use Rattle.std.proofs.Common.{◌≡◌, ◌≢◌, ℕ, ◌+◌, ◌<◌, ◌≤◌, ◌%◌, ◌^◌, List, [], ◌∷◌, ◌++◌, length, false, refl, sym, ap, ◌∙◌, arith, eqb, Option, Some, None, unwrap_or, get_or, set, append_assoc, length-append, inl, inr, take}
 use Rattle.std.specs.List.{IsDistinct}
 use Rattle.intaglio_index.proofs.ChainLemmas.{chain-grows, chain-stays, chain-each, chain-entry, symbol_at, chain-distinct, chain-complete, entry-split, unput, insert_sorted-between, put-behind, Each-so}

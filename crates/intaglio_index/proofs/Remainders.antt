@@ -1,6 +1,6 @@
 -- A remainder without a division.
 use Rattle.std.proofs.Common.{◌≡◌, ℕ, ◌+◌, ◌-◌, ◌*◌, ◌/◌, ◌%◌, ◌^◌, ◌<◌, ◌≤◌, sym, ap, ◌∙◌, arith, inl, inr}
-use Rattle.intaglio_index.proofs.Common.{IsPowerOfTwo, bit_and, cases_lt, and_mask, div-add-mod', mod-mul-add, mul-le-mul_left, mul-le-mul_right}
+use Rattle.intaglio_index.proofs.Names.{IsPowerOfTwo, bit_and, cases_lt, and_mask, div-add-mod', mod-mul-add, mul-le-mul_left, mul-le-mul_right}
 
 -- by a power of two
 pub masked : (hash count mask : ℕ) → IsPowerOfTwo (mask + 1) → count ≡ mask + 1 →

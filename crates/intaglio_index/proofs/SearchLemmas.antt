@@ -1,5 +1,5 @@
 -- What a search along a bucket finds.
-use Rattle.intaglio_index.proofs.Common.{common_steps, MatchOption, IfSome, AllByRecursion, eqb-false, true≢false, eqb_tells, get_or_default, recursion_from_All, Event, step, Head, Placed, chain_from, head_of, first_symbol_with, IsEntry, BeginsAtOrAbove, IsPredecessor, IsFound, IsPassed, IsBehind, IsReached, IsAt, IsHead, IsWord}
+use Rattle.intaglio_index.proofs.Names.{common_steps, MatchOption, IfSome, AllByRecursion, eqb-false, true≢false, eqb_tells, get_or_default, recursion_from_All, Event, step, Head, Placed, chain_from, head_of, first_symbol_with, IsEntry, BeginsAtOrAbove, IsPredecessor, IsFound, IsPassed, IsBehind, IsReached, IsAt, IsHead, IsWord}
 use Rattle.std.proofs.Common.{cond, eqb, ◌≡◌, ◌≢◌, ◌⊎◌, ℕ, ◌+◌, ◌*◌, ◌/◌, ◌%◌, ◌<◌, ◌≤◌, Bool, true, false, List, [], ◌∷◌, ◌++◌, length, get_or, replicate, Option, Some, None, refl, sym, ap, ◌∙◌, arith, inl, inr, append_assoc, length-append}
 use Rattle.std.specs.List.{IsDistinct}
 use Rattle.intaglio_index.specs.Placed.{chain}

@@ -1,7 +1,7 @@
 -- A walk along a bucket.
 use Rattle.std.proofs.Common.{◌≡◌, ℕ, ◌<◌, List, [], ◌∷◌, ◌++◌, length, cond, false, refl, sym, ap, ◌∙◌, arith, eqb, Option, Some, None, append_assoc}
 use Rattle.std.specs.List.{IsDistinct}
-use Rattle.intaglio_index.proofs.Common.{eq-eqb, HasPassed, IsAt, Placed, head_of, symbols_of}
+use Rattle.intaglio_index.proofs.Names.{eq-eqb, HasPassed, IsAt, Placed, head_of, symbols_of}
 use Rattle.intaglio_index.specs.Placed.{chain}
 use Rattle.intaglio_index.proofs.ChainLemmas.{chain-distinct, chain-entry, symbol_at, Each-append}
 

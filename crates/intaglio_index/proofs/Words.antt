@@ -1,5 +1,5 @@
 -- Words that hold a hash with a symbol.
-use Rattle.intaglio_index.proofs.Common.{common_steps, IsPowerOfTwo, bit_xor, cases_lt, pow_pos, pow_below, xor_shr, xor_mod, div-add-mod', div-mul-add, mod-mul-add, div_below, mul-add-lt, le-div, pow-add, mul-le-mul_right, div-eq_of_lt, div-lt_iff_lt-mul, IsWord}
+use Rattle.intaglio_index.proofs.Names.{common_steps, IsPowerOfTwo, bit_xor, cases_lt, pow_pos, pow_below, xor_shr, xor_mod, div-add-mod', div-mul-add, mod-mul-add, div_below, mul-add-lt, le-div, pow-add, mul-le-mul_right, div-eq_of_lt, div-lt_iff_lt-mul, IsWord}
 use Rattle.std.proofs.Common.{◌≡◌, ◌≢◌, ◌↔◌, ℕ, ◌+◌, ◌-◌, ◌*◌, ◌/◌, ◌%◌, ◌^◌, ◌<◌, ◌≤◌, sym, ap, ◌∙◌, arith, inl, inr}
 use Rattle.std.specs.Int.Bits.{xor_self}
 use Rattle.intaglio_content.proofs.SameLemmas.{xor-none}

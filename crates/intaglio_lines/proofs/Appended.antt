@@ -1,5 +1,5 @@
 -- What was written, piece by piece.
-use Rattle.intaglio_lines.proofs.Common.{common_steps, take-add, take-append-add, append_cancel_left, take-append-le, take_min, take_rest, Appends, Keeps, append_known}
+use Rattle.intaglio_lines.proofs.Names.{common_steps, take-add, take-append-add, append_cancel_left, take-append-le, take_min, take_rest, Appends, Keeps, append_known}
 use Rattle.std.proofs.Common.{◌∙◌, sym, refl, ℕ, ◌+◌, ◌-◌, min, List, [], ◌++◌, length, take, drop, append_assoc, append-nil, Option, Some, None, arith}
 use Rattle.intaglio_lines.specs.Puts.{IsFront}
 

@@ -1,5 +1,5 @@
 -- What holds of the lines of bytes, line by line.
-use Rattle.intaglio_lines.proofs.Common.{common_steps, flat_map, All, AllByRecursion, IsUtf8, slice_split_at, slice_split_none, length-slice_split, All-nil, All-cons, All-append, cases_eq, lines_of, spelling_line, IsLine, is_ended, with_last_line_ended}
+use Rattle.intaglio_lines.proofs.Names.{common_steps, flat_map, All, AllByRecursion, IsUtf8, slice_split_at, slice_split_none, length-slice_split, All-nil, All-cons, All-append, cases_eq, lines_of, spelling_line, IsLine, is_ended, with_last_line_ended}
 use Rattle.std.proofs.Common.{◌≡◌, ◌≢◌, ◌∙◌, sym, refl, subst, inl, inr, ℕ, suc, ◌<◌, ◌≤◌, true, false, eqb, ne_eqb, List, [], ◌∷◌, ◌++◌, length, append_assoc, append-nil, length-append, arith}
 use Rattle.std.proofs.lemmas.Str.Ascii.{IsAscii-cons, IsAscii-nil}
 use Rattle.std.proofs.lemmas.Str.{IsUtf8-nil, IsUtf8-append, IsUtf8-from_ascii}

@@ -1,5 +1,5 @@
 -- What the proofs share.
-mod Common
+mod Names
 pub mod Appended
 pub mod LineCuts
 pub mod ByLines

@@ -1,5 +1,5 @@
 -- The first line of bytes, and the lines of what stands after it.
-use Rattle.intaglio_lines.proofs.Common.{common_steps, position, position_or_len, slice_split_first, slice_split_none, length-slice_split, fails_before_first, passes_at_first, split_at_first, prefix_len-le-length, take_rest, lines_of, without_empty_last}
+use Rattle.intaglio_lines.proofs.Names.{common_steps, position, position_or_len, slice_split_first, slice_split_none, length-slice_split, fails_before_first, passes_at_first, split_at_first, prefix_len-le-length, take_rest, lines_of, without_empty_last}
 use Rattle.std.proofs.Common.{◌≡◌, ℕ, ◌+◌, ◌-◌, ◌<◌, Some, None, take, drop, List, [], ◌∷◌, Bool, eqb, eqb-true, ◌++◌, refl, length, arith, rules}
 
 -- only the last piece may go

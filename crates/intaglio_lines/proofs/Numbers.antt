@@ -1,5 +1,5 @@
 -- A number in decimal is a line that is a number, and says that number.
-use Rattle.intaglio_lines.proofs.Common.{common_steps, all_ascii_digits, digits_value, All-from_get_or, and_parts, not-true, cases_eq, IsLine, is_number}
+use Rattle.intaglio_lines.proofs.Names.{common_steps, all_ascii_digits, digits_value, All-from_get_or, and_parts, not-true, cases_eq, IsLine, is_number}
 use Rattle.std.proofs.Common.{◌≡◌, ◌≢◌, ℕ, ◌^◌, ◌<◌, true, not, eqb, List, [], ◌∷◌, length, get_or, decimal, arith}
 use Rattle.std.proofs.lemmas.Str.Parse.{IsNumeralModel, numerals_by_value, tells_all_ascii_digits, digit_at}
 use Rattle.std.proofs.lemmas.Fmt.{digits_decimal, digits_value-decimal, decimal_nonempty, first_decimal, decimal_digit, decimal-digits_value}

@@ -1,5 +1,5 @@
 -- Bytes have no fault exactly if they hold symbols and spellings, and they hold them in one way.
-use Rattle.intaglio_lines.proofs.Common.{common_steps, drop-append-add, flat_map, position_or_len, before_first, after_first, list_any, AllByRecursion, digits_value, take_at, nil_from_length, split_at_first, passes_at_first, All-nil, recursion_from_All, lines_of, spelling_line, output_of, IsLine, Holds, Decodes, is_ended, is_blank, symbol_lines, spellings_of, spelling_count, first_fault, fault_of, AreKnown}
+use Rattle.intaglio_lines.proofs.Names.{common_steps, drop-append-add, flat_map, position_or_len, before_first, after_first, list_any, AllByRecursion, digits_value, take_at, nil_from_length, split_at_first, passes_at_first, All-nil, recursion_from_All, lines_of, spelling_line, output_of, IsLine, Holds, Decodes, is_ended, is_blank, symbol_lines, spellings_of, spelling_count, first_fault, fault_of, AreKnown}
 use Rattle.std.proofs.Common.{◌≢◌, ◌≡◌, ◌↔◌, ap, refl, ℕ, ◌+◌, ◌^◌, ◌<◌, ◌≤◌, true, false, lt-ltb, ltb-true, eqb-true, List, [], ◌∷◌, ◌++◌, length, map, decimal, Some, None, append_assoc, length-append, length-drop, arith}
 use Rattle.std.proofs.lemmas.List.Concat.{flat_map-append}
 use Rattle.std.proofs.lemmas.List.Folds.{flat_map-map, list_any-append}

@@ -1,5 +1,5 @@
 -- The numbers that a search by records gives are those of the contents with the hash.
-use Rattle.intaglio_packed.proofs.Common.{common_steps, eq-eqb, lt-ltb, get_or-map, Contains-append_right, get_or_default_zero, Key, AreEqualHashes, one_of, AreAll}
+use Rattle.intaglio_packed.proofs.Names.{common_steps, eq-eqb, lt-ltb, get_or-map, Contains-append_right, get_or_default_zero, Key, AreEqualHashes, one_of, AreAll}
 use Rattle.std.proofs.Common.{◌≡◌, ◌≢◌, ℕ, zero, ◌<◌, ◌≤◌, ◌==◌, ◌&&◌, nat_lt, Bool, true, false, cond, List, [], ◌∷◌, length, map, get_or, refl, sym, ap, ◌∙◌, arith, inl, inr}
 use Rattle.std.specs.List.{All, AllPairs, Contains, sum_by}
 use Rattle.std.proofs.lemmas.Bool.Decides.{eqb_tells}

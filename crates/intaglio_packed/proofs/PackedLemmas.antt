@@ -2,7 +2,7 @@
 use Rattle.std.proofs.Common.{◌≡◌, ℕ, ◌-◌, ◌^◌, ◌≤◌, sym, refl, arith}
 use Rattle.intaglio_records.specs.declared.index.RecordIndex.{RecordIndex}
 use Rattle.intaglio_records.specs.Index.{IsOver}
-use Rattle.intaglio_packed.proofs.Common.{Records, hashes_of, record_room_of, strings_of, over_less, over_same, same_pairs}
+use Rattle.intaglio_packed.proofs.Names.{Records, hashes_of, record_room_of, strings_of, over_less, over_same, same_pairs}
 use Rattle.intaglio_packed.specs.PackedIndex.{room_with}
 
 -- an index stays over records that give up room

@@ -1,5 +1,5 @@
 -- How chains of lines change.
-use Rattle.intaglio_records.proofs.Common.{common_steps, cases_eq, eqb_tells, get_or-set_same, get_or-set_other, length-set, get_or_append_left, get_or_default, get_or-append_seam, Line, Entry, IsLine, Overflow, add, newest, no_line, AreBehind, AreChains}
+use Rattle.intaglio_records.proofs.Names.{common_steps, cases_eq, eqb_tells, get_or-set_same, get_or-set_other, length-set, get_or_append_left, get_or_default, get_or-append_seam, Line, Entry, IsLine, Overflow, add, newest, no_line, AreBehind, AreChains}
 use Rattle.std.proofs.Common.{◌≡◌, ◌≢◌, ℕ, ◌+◌, ◌<◌, ◌≤◌, List, [], ◌∷◌, ◌++◌, length, get_or, set, refl, ◌∙◌, arith, inl, inr, length-append}
 
 -- adding an entry to an overflow line leaves the number of these lines

@@ -1,5 +1,5 @@
 -- Strings between ends.
-use Rattle.intaglio_records.proofs.Common.{common_steps, concat, drop_all, drop-drop, take-append-drop, drop-take, take-take, sum_by-cons, strings_from, AreEnds}
+use Rattle.intaglio_records.proofs.Names.{common_steps, concat, drop_all, drop-drop, take-append-drop, drop-take, take-take, sum_by-cons, strings_from, AreEnds}
 use Rattle.std.proofs.Common.{append_assoc, length-append, take_all, sym, ◌≡◌, ℕ, ◌+◌, ◌-◌, ◌<◌, ◌≤◌, suc, zero, List, [], ◌∷◌, ◌++◌, length, take, drop, get_or, slice_get, slice_range, Some, refl, ap, ◌∙◌, arith, length-drop, length-take-le, sum_by}
 
 -- where the first string begins is within the bytes

@@ -1,5 +1,5 @@
 -- Entries of records.
-use Rattle.intaglio_records.proofs.Common.{common_steps, not-false, get_or-map, get_or-take, get_or_append_left, length-append, length-drop, length-map, length-take, take-append-le, take-take, sum_by-cons, get_or_from_slice_get, get_or-append_seam, hash_at, pair_of, entries, entries_of, position, size_of, slot_of}
+use Rattle.intaglio_records.proofs.Names.{common_steps, not-false, get_or-map, get_or-take, get_or_append_left, length-append, length-drop, length-map, length-take, take-append-le, take-take, sum_by-cons, get_or_from_slice_get, get_or-append_seam, hash_at, pair_of, entries, entries_of, position, size_of, slot_of}
 use Rattle.std.proofs.Common.{not, ◌≡◌, ℕ, ◌+◌, ◌<◌, ◌≤◌, suc, zero, Bool, List, [], ◌∷◌, ◌++◌, length, take, map, slice_get, Some, min, sum_by, refl, ap, ◌∙◌, arith, take_all}
 use Rattle.intaglio_records.proofs.RecordLemmas.{AreLong, are-long}
 

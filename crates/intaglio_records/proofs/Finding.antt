@@ -1,5 +1,5 @@
 -- A search finds each entry of its class and tag once.
-use Rattle.intaglio_records.proofs.Common.{common_steps, IsPermutation, cases_eq, cond-true, cond-false, eq-eqb, ne_eqb, eqb_tells, IsPermutation-refl, IsPermutation-trans, IsPermutation-append_left, IsPermutation-append_right, IsPermutation-append_comm, Entry, tag_of, Overflow, first_line, add, overflow, newest, slots_with, overflow_slots, slots_of, AreFound}
+use Rattle.intaglio_records.proofs.Names.{common_steps, IsPermutation, cases_eq, cond-true, cond-false, eq-eqb, ne_eqb, eqb_tells, IsPermutation-refl, IsPermutation-trans, IsPermutation-append_left, IsPermutation-append_right, IsPermutation-append_comm, Entry, tag_of, Overflow, first_line, add, overflow, newest, slots_with, overflow_slots, slots_of, AreFound}
 use Rattle.std.proofs.Common.{◌≡◌, ◌≢◌, ℕ, ◌%◌, ◌<◌, ◌≤◌, ◌==◌, List, [], ◌∷◌, ◌++◌, length, cond, refl, arith, inl, inr, append_assoc}
 use Rattle.intaglio_records.proofs.Tops.{spilling, first-full, first-other, first-here, is-top, length-none}
 

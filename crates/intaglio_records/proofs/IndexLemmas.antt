@@ -1,5 +1,5 @@
 -- Indexes over records.
-use Rattle.intaglio_records.proofs.Common.{common_steps}
+use Rattle.intaglio_records.proofs.Names.{common_steps}
 use Rattle.std.proofs.Common.{◌≡◌, ℕ, ◌-◌, ◌^◌, ◌≤◌, List, [], ◌∷◌, length, map, drop, get_or, refl, ap, arith}
 use Rattle.intaglio_records.specs.declared.index.RecordIndex.{RecordIndex}
 use Rattle.intaglio_records.specs.Index.{IsOver}

@@ -1,5 +1,5 @@
 -- What the proofs share.
-mod Common
+mod Names
 -- Lemmas on strings in one buffer.
 pub mod Ends
 -- Lemmas on lines, and on chains of them.

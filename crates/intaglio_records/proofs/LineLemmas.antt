@@ -1,5 +1,5 @@
 -- What a line has, and how it changes.
-use Rattle.intaglio_records.proofs.Common.{common_steps, cases_eq, get_or-set_same, get_or-set_other, length-set, Line, Entry, tag_of, AreIn, IsLine}
+use Rattle.intaglio_records.proofs.Names.{common_steps, cases_eq, get_or-set_same, get_or-set_other, length-set, Line, Entry, tag_of, AreIn, IsLine}
 use Rattle.std.proofs.Common.{◌≡◌, ◌≢◌, ℕ, ◌<◌, ◌≤◌, List, [], ◌∷◌, length, get_or, set, ◌∙◌, arith}
 
 -- a tag isn't 0

@@ -1,5 +1,5 @@
 -- Searches among records.
-use Rattle.intaglio_records.proofs.Common.{common_steps, concat, All, cases_lt, cond_both, le-ltb, sum_by-cons, slice_get-map, slice_get-get_or, Candidates, hash_at, number_at, Entry, tag_of, pair_of, AreRecords, entries, position, slot_of, IsPosition, IsSlot, begin_of, numbers_with, one_of, AreAll, IsPermutation, length-map, sum_by-IsPermutation}
+use Rattle.intaglio_records.proofs.Names.{common_steps, concat, All, cases_lt, cond_both, le-ltb, sum_by-cons, slice_get-map, slice_get-get_or, Candidates, hash_at, number_at, Entry, tag_of, pair_of, AreRecords, entries, position, slot_of, IsPosition, IsSlot, begin_of, numbers_with, one_of, AreAll, IsPermutation, length-map, sum_by-IsPermutation}
 use Rattle.std.proofs.Common.{◌≡◌, ◌≢◌, ℕ, zero, suc, ◌+◌, ◌%◌, ◌^◌, ◌<◌, ◌≤◌, ◌==◌, ◌&&◌, nat_lt, Bool, true, false, inl, inr, arith, sum_by, List, [], ◌∷◌, ◌++◌, length, drop, get_or, slice_get, Some, map, cond, refl, sym, ap, ◌∙◌, subst}
 use Rattle.std.proofs.lemmas.List.Elements.{All-cons, All-head, All-nil, All-tail}
 use Rattle.intaglio_records.specs.Search as search

@@ -1,6 +1,6 @@
 -- An entry more.
 use Rattle.std.proofs.Common.{◌≡◌, ◌≢◌, ℕ, ◌+◌, ◌*◌, ◌%◌, ◌<◌, ◌≤◌, List, [], ◌∷◌, ◌++◌, length, get_or, set, arith, inl, inr, mod-lt, vec_capacity}
-use Rattle.intaglio_records.proofs.Common.{get_or-set_other, length-set, Line, Entry, IsLine, first_line, newest_length, overflow, newest, no_line, AreChains, IsFilled, firsts_of, Lines}
+use Rattle.intaglio_records.proofs.Names.{get_or-set_other, length-set, Line, Entry, IsLine, first_line, newest_length, overflow, newest, no_line, AreChains, IsFilled, firsts_of, Lines}
 use Rattle.intaglio_records.proofs.ChainLemmas.{add-length, newest-add, newest-at, behind-add, chains-first, chains-new, read-line}
 use Rattle.intaglio_records.proofs.Searching.{next-line}
 use Rattle.intaglio_records.proofs.Tops.{first-other, first-here, first-full, overflow-same, overflow-add, overflow-new, is-top, top-few, needed}

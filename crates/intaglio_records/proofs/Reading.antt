@@ -1,5 +1,5 @@
 -- What is read of records among the bytes of all.
-use Rattle.intaglio_records.proofs.Common.{common_steps, concat, drop-append-le, drop-drop, get_or_append_left, get_or-drop, length-append, length-drop, take-append-le, sum_by-cons, sum_by_more_le, hash_at, number_at, AreRecords, position}
+use Rattle.intaglio_records.proofs.Names.{common_steps, concat, drop-append-le, drop-drop, get_or_append_left, get_or-drop, length-append, length-drop, take-append-le, sum_by-cons, sum_by_more_le, hash_at, number_at, AreRecords, position}
 use Rattle.std.proofs.Common.{◌≡◌, ℕ, ◌+◌, ◌-◌, ◌%◌, ◌^◌, ◌<◌, ◌≤◌, suc, zero, List, [], ◌∷◌, ◌++◌, length, min, take, drop, get_or, slice_range, sum_by, refl, ◌∙◌, arith, take_all}
 
 -- the bytes of all records

@@ -1,5 +1,5 @@
 -- Lists of records.
-use Rattle.intaglio_records.proofs.Common.{common_steps, cases_lt, le-leb, leb-true, get_or_append_left, length-drop, length-map, take-map, slice_get-map, sum_by-cons, header_of, IsRecord, AreRecords, pair_of, set_aside, Strings, byte_room_of}
+use Rattle.intaglio_records.proofs.Names.{common_steps, cases_lt, le-leb, leb-true, get_or_append_left, length-drop, length-map, take-map, slice_get-map, sum_by-cons, header_of, IsRecord, AreRecords, pair_of, set_aside, Strings, byte_room_of}
 use Rattle.std.proofs.Common.{length-append, take_all, ◌≡◌, ℕ, ◌+◌, ◌-◌, ◌*◌, ◌%◌, ◌^◌, ◌<◌, ◌≤◌, suc, zero, List, [], ◌∷◌, ◌++◌, length, take, drop, map, get_or, slice_get, Some, sum_by, refl, ◌∙◌, arith, inl, inr, OnOk, OnErr, Result, Ok, Err, ◌⊎◌}
 
 -- each string of the list has the bytes of a header

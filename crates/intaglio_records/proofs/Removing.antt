@@ -1,5 +1,5 @@
 -- The newest entry less.
-use Rattle.intaglio_records.proofs.Common.{common_steps, cases_eq, ne_eqb, eqb_tells, get_or-set_same, get_or-set_other, length-set, get_or-take, length-take-le, Line, Entry, IsLine, Overflow, first_line, newest_length, add, overflow, newest, no_line, AreBehind, AreChains, firsts_of}
+use Rattle.intaglio_records.proofs.Names.{common_steps, cases_eq, ne_eqb, eqb_tells, get_or-set_same, get_or-set_other, length-set, get_or-take, length-take-le, Line, Entry, IsLine, Overflow, first_line, newest_length, add, overflow, newest, no_line, AreBehind, AreChains, firsts_of}
 use Rattle.std.proofs.Common.{◌≡◌, ◌≢◌, ℕ, suc, ◌+◌, ◌%◌, ◌<◌, ◌≤◌, List, [], ◌∷◌, length, get_or, set, take, sym, ◌∙◌, arith, inl, inr, mod-lt}
 use Rattle.intaglio_records.proofs.ChainLemmas.{add-length, newest-add, newest-at, behind-kept, behind-same, chains-first}
 use Rattle.intaglio_records.proofs.Tops.{spilling, first-here, first-other, first-full, overflow-same, overflow-add, overflow-new, is-top, length-here, length-none}

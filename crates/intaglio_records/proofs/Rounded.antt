@@ -1,7 +1,7 @@
 -- A number that is rounded up to a power of two.
 use Rattle.std.proofs.Common.{◌≡◌, ℕ, ◌/◌, ◌^◌, ◌<◌, ◌≤◌, max, inl, inr, arith}
 use Rattle.std.proofs.Math.Pow.{pow-lt}
-use Rattle.intaglio_records.proofs.Common.{cases_lt, IsPowerOfTwo}
+use Rattle.intaglio_records.proofs.Names.{cases_lt, IsPowerOfTwo}
 
 -- what is within 2^29 stays so
 pub rounded_within : (n p : ℕ) → IsPowerOfTwo p → p / 2 < max 1 n → n ≤ 2 ^ 29 → p ≤ 2 ^ 29

@@ -1,5 +1,5 @@
 -- What a search gives, and what it has still to give.
-use Rattle.intaglio_records.proofs.Common.{common_steps, bit_at, cases_eq, bit_at-lt, eqb_tells, Line, Entry, AreIn, IsLine, Overflow, newest, newest_length, no_line, AreBehind, Candidates, slots_with, overflow_slots, picked, bits_below, IsLeft}
+use Rattle.intaglio_records.proofs.Names.{common_steps, bit_at, cases_eq, bit_at-lt, eqb_tells, Line, Entry, AreIn, IsLine, Overflow, newest, newest_length, no_line, AreBehind, Candidates, slots_with, overflow_slots, picked, bits_below, IsLeft}
 use Rattle.std.proofs.Common.{◌≡◌, ◌≢◌, ℕ, zero, suc, ◌+◌, ◌<◌, ◌≤◌, ◌==◌, List, [], ◌∷◌, ◌++◌, length, get_or, cond, refl, subst, arith, inl, inr}
 
 -- no bit is set

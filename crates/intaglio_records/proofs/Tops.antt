@@ -1,5 +1,5 @@
 -- How many overflow lines there are: every eleventh entry of a class makes one.
-use Rattle.intaglio_records.proofs.Common.{common_steps, cases_eq, cases_lt, lt-ltb, cond-false, eq-eqb, ne_eqb, eqb_tells, Entry, Overflow, first_line, newest_length, add, overflow, newest}
+use Rattle.intaglio_records.proofs.Names.{common_steps, cases_eq, cases_lt, lt-ltb, cond-false, eq-eqb, ne_eqb, eqb_tells, Entry, Overflow, first_line, newest_length, add, overflow, newest}
 use Rattle.std.proofs.Common.{◌≡◌, ◌≢◌, ◌⊎◌, ℕ, zero, suc, ◌+◌, ◌*◌, ◌%◌, ◌<◌, ◌≤◌, ◌==◌, List, [], ◌∷◌, length, cond, refl, sym, arith, inl, mod-lt}
 use Rattle.intaglio_records.proofs.ChainLemmas.{add-length, newest-add}
 

@@ -1,5 +1,5 @@
 -- Symbols that are issued in order are issued again for the lines that they stand for.
-use Rattle.intaglio_decode.proofs.Common.{key_of}
+use Rattle.intaglio_decode.proofs.Names.{key_of}
 use Rattle.intaglio_decode.proofs.InOrder.{encodes-decoded}
 use Rattle.intaglio_decode.proofs.laws.encoding_gives_the_bytes.Goals as goal
 

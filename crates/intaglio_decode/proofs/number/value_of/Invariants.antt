@@ -1,6 +1,6 @@
 -- The digits so far, and the number that they say.
 use Rattle.std.proofs.Common.{◌≡◌, ◌-◌, ◌^◌, min, take}
-use Rattle.intaglio_decode.proofs.Common.{digits_value, AllDigits}
+use Rattle.intaglio_decode.proofs.Names.{digits_value, AllDigits}
 use Rattle.intaglio_decode.proofs.number.value_of.Given as goal
 
 abbrev pub invariant-loop-digit : goal.invariant-loop-digit

@@ -1,6 +1,6 @@
 -- The first empty line of what is left is that of all lines.
 use Rattle.std.proofs.Common.{◌≡◌, length}
-use Rattle.intaglio_decode.proofs.Common.{list_any, lines_of, is_blank, spellings_of}
+use Rattle.intaglio_decode.proofs.Names.{list_any, lines_of, is_blank, spellings_of}
 use Rattle.intaglio_decode.proofs.parts.behind_blank.Given as goal
 
 abbrev pub invariant-loop-rest : goal.invariant-loop-rest

@@ -1,5 +1,5 @@
 -- The first fault is that of the first line, if it has one, or else that of the lines behind it.
-use Rattle.intaglio_decode.proofs.Common.{common_steps}
+use Rattle.intaglio_decode.proofs.Names.{common_steps}
 use Rattle.std.proofs.Common.{arith}
 use Rattle.intaglio_decode.proofs.Symbols.{symbol_lines-more, reports_or}
 use Rattle.intaglio_decode.proofs.parts.check_symbols.Goals as goal

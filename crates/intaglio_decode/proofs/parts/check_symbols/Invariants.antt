@@ -1,6 +1,6 @@
 -- No symbol so far is wrong.
 use Rattle.std.proofs.Common.{◌≡◌, ◌+◌, ◌≤◌, length}
-use Rattle.intaglio_decode.proofs.Common.{first_fault, symbol_lines}
+use Rattle.intaglio_decode.proofs.Names.{first_fault, symbol_lines}
 use Rattle.intaglio_decode.proofs.parts.check_symbols.Given as goal
 
 abbrev pub invariant-loop-rest : goal.invariant-loop-rest

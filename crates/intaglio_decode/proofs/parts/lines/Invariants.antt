@@ -1,6 +1,6 @@
 -- The lines so far and those of what is left are all lines.
 use Rattle.std.proofs.Common.{◌≡◌, ◌++◌, length, map}
-use Rattle.intaglio_decode.proofs.Common.{lines_of}
+use Rattle.intaglio_decode.proofs.Names.{lines_of}
 use Rattle.intaglio_decode.proofs.parts.lines.Given as goal
 
 abbrev pub invariant-loop-rest : goal.invariant-loop-rest

@@ -1,5 +1,5 @@
 -- Each symbol was checked against the count of spellings, and the last line is ended: so the bytes hold both.
-use Rattle.intaglio_decode.proofs.Common.{common_steps, length-map, holds-read, known-lines}
+use Rattle.intaglio_decode.proofs.Names.{common_steps, length-map, holds-read, known-lines}
 use Rattle.std.proofs.Common.{arith}
 use Rattle.intaglio_decode.proofs.parts.parse.Goals as goal
 

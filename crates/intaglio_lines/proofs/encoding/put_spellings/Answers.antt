@@ -1,5 +1,5 @@
 -- A turn adds the line of the spelling at its place to those before it.
-use Rattle.intaglio_lines.proofs.Common.{common_steps, flat_map-append, slice_get, flat_map, append-nil, map-append, take_more, spelling_line}
+use Rattle.intaglio_lines.proofs.Names.{common_steps, flat_map-append, slice_get, flat_map, append-nil, map-append, take_more, spelling_line}
 use Rattle.std.proofs.Common.{◌≡◌, ◌∙◌, ◌+◌, ◌++◌, ◌∷◌, [], ℕ, List, Some, take, map, add-one, sym, ap, arith}
 use Rattle.std.specs.Option.{option_copied}
 use Rattle.std.proofs.lemmas.Option.{slice_get_within, get_or_from_slice_get}

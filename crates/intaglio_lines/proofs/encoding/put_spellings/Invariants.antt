@@ -1,6 +1,6 @@
 -- The lines of the spellings so far were put.
 use Rattle.std.proofs.Common.{take, map}
-use Rattle.intaglio_lines.proofs.Common.{flat_map, Appends, append_known, spelling_line}
+use Rattle.intaglio_lines.proofs.Names.{flat_map, Appends, append_known, spelling_line}
 use Rattle.intaglio_lines.proofs.encoding.put_spellings.Given as goal
 
 abbrev pub invariant-loop-place : goal.invariant-loop-place

@@ -1,6 +1,6 @@
 -- The lines of the symbols so far were put.
 use Rattle.std.proofs.Common.{take}
-use Rattle.intaglio_lines.proofs.Common.{flat_map, Appends, append_known, number_line}
+use Rattle.intaglio_lines.proofs.Names.{flat_map, Appends, append_known, number_line}
 use Rattle.intaglio_lines.proofs.encoding.put_symbols.Given as goal
 
 abbrev pub invariant-loop-symbol : goal.invariant-loop-symbol

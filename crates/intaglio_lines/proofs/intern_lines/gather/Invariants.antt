@@ -1,6 +1,6 @@
 -- The forms so far, and the lines of what is left, are the lines of the input.
 use Rattle.std.proofs.Common.{◌≡◌, ◌+◌, ◌≤◌, ◌++◌, length, map, not, vec_capacity}
-use Rattle.intaglio_lines.proofs.Common.{position_or_len, lines_of}
+use Rattle.intaglio_lines.proofs.Names.{position_or_len, lines_of}
 use Rattle.intaglio_lines.proofs.intern_lines.gather.Given as goal
 
 abbrev pub invariant-loop-line : goal.invariant-loop-line

@@ -1,6 +1,6 @@
 -- What the lines taken so far gave, and what the rest will give, is what all lines give.
 use Rattle.std.proofs.Common.{◌≡◌, ◌+◌, ◌≤◌, ◌++◌, length, map, not}
-use Rattle.intaglio_lines.proofs.Common.{position_or_len, lines_of}
+use Rattle.intaglio_lines.proofs.Names.{position_or_len, lines_of}
 use Rattle.intaglio_interner.specs.Issue.{issue_from, interned_all}
 use Rattle.intaglio_lines.proofs.intern_lines.intern_more_lines.Given as goal
 

@@ -1,6 +1,6 @@
 -- `memchr` finds the first byte 10, and `position` is of the same byte.
 use Rattle.std.proofs.Common.{◌≡◌, ℕ, Bool, List, length, get_or, Option, None, Some, ◌==◌, arith}
-use Rattle.intaglio_lines.proofs.Common.{common_steps, false_from_ne_true, position_or_len_is, position}
+use Rattle.intaglio_lines.proofs.Names.{common_steps, false_from_ne_true, position_or_len_is, position}
 use Rattle.memchr.specs.Find.{IsFirstByte}
 use Rattle.intaglio_lines.proofs.lines.end_of_line.Goals as goal
 

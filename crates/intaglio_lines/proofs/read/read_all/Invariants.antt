@@ -1,5 +1,5 @@
 -- What was read so far stands in the list, in order.
-use Rattle.intaglio_lines.proofs.Common.{Consumes}
+use Rattle.intaglio_lines.proofs.Names.{Consumes}
 use Rattle.intaglio_lines.proofs.read.read_all.Given as goal
 
 abbrev pub invariant-loop : goal.invariant-loop

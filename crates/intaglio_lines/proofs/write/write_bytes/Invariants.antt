@@ -1,6 +1,6 @@
 -- The bytes so far are written.
 use Rattle.std.proofs.Common.{◌≤◌, length, take}
-use Rattle.intaglio_lines.proofs.Common.{Appends}
+use Rattle.intaglio_lines.proofs.Names.{Appends}
 use Rattle.intaglio_lines.proofs.write.write_bytes.Given as goal
 
 abbrev pub invariant-loop : goal.invariant-loop

@@ -1,6 +1,6 @@
 use Rattle.std.proofs.Common.{◌≡◌, false, Ok, Err, Result, sym, ◌∙◌}
 use Rattle.std.specs.Result.{is_err, OnOk}
-use Rattle.intaglio_packed.proofs.Common.{true≢false, record_room_of}
+use Rattle.intaglio_packed.proofs.Names.{true≢false, record_room_of}
 use Rattle.intaglio_packed.proofs.packed_index.reach_bytes.Goals as goal
 
 when_ok : {A E P : Type 0} (r : Result A E) → is_err r ≡ false → OnOk r P → P

@@ -1,4 +1,4 @@
-use Rattle.intaglio_records.proofs.Common.{common_steps, entries}
+use Rattle.intaglio_records.proofs.Names.{common_steps, entries}
 use Rattle.std.proofs.Common.{arith}
 use Rattle.intaglio_records.proofs.EntryLemmas.{entry-more, length-entries}
 use Rattle.intaglio_records.proofs.entries.lines_of.Goals as goal

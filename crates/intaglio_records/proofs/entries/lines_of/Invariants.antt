@@ -1,5 +1,5 @@
 use Rattle.std.proofs.Common.{◌≤◌, ◌+◌, ◌*◌}
-use Rattle.intaglio_records.proofs.Common.{IsFilled, places_of, entries}
+use Rattle.intaglio_records.proofs.Names.{IsFilled, places_of, entries}
 use Rattle.intaglio_records.proofs.entries.lines_of.Given as goal
 
 abbrev pub invariant-loop-i : goal.invariant-loop-i

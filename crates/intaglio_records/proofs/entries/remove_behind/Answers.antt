@@ -1,4 +1,4 @@
-use Rattle.intaglio_records.proofs.Common.{common_steps, IsFilled, entries, position, slot_of}
+use Rattle.intaglio_records.proofs.Names.{common_steps, IsFilled, entries, position, slot_of}
 use Rattle.std.proofs.Common.{◌∷◌, ◌-◌, arith, ◌∙◌, subst}
 use Rattle.intaglio_records.proofs.EntryLemmas.{entry-more}
 use Rattle.intaglio_records.proofs.entries.remove_behind.Goals as goal

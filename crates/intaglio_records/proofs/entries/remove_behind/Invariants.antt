@@ -1,5 +1,5 @@
 use Rattle.std.proofs.Common.{◌≡◌, ◌≤◌, length, min}
-use Rattle.intaglio_records.proofs.Common.{IsFilled, places_of, entries}
+use Rattle.intaglio_records.proofs.Names.{IsFilled, places_of, entries}
 use Rattle.intaglio_records.proofs.entries.remove_behind.Given as goal
 
 abbrev pub invariant-loop-count : goal.invariant-loop-count

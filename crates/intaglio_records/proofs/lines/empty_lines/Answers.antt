@@ -1,4 +1,4 @@
-use Rattle.intaglio_records.proofs.Common.{common_steps, cases_lt, length-append, get_or_append_left}
+use Rattle.intaglio_records.proofs.Names.{common_steps, cases_lt, length-append, get_or_append_left}
 use Rattle.std.proofs.Common.{[], ◌∷◌, length, ap, ◌∙◌, arith}
 use Rattle.intaglio_records.proofs.lines.empty_lines.Goals as goal
 

@@ -1,5 +1,5 @@
 use Rattle.std.proofs.Common.{◌≡◌}
-use Rattle.intaglio_records.proofs.Common.{AreEmpty}
+use Rattle.intaglio_records.proofs.Names.{AreEmpty}
 use Rattle.intaglio_records.proofs.lines.empty_lines.Given as goal
 
 abbrev pub invariant-loop-i : goal.invariant-loop-i

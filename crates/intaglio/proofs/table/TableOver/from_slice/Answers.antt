@@ -1,5 +1,5 @@
 use Rattle.std.proofs.Common.{◌≡◌, ◌∙◌, ap, map, length, []}
-use Rattle.intaglio.proofs.Common.{length-map, numbers_from, issue_from}
+use Rattle.intaglio.proofs.Names.{length-map, numbers_from, issue_from}
 use Rattle.intaglio_interner.proofs.Each.{keys-seen}
 use Rattle.intaglio.proofs.Numbered.{numbered}
 use Rattle.intaglio.proofs.table.TableOver.from_slice.Goals as goal

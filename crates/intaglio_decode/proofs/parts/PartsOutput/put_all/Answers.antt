@@ -1,5 +1,5 @@
 -- Each symbol is known, so its line is the spelling of its number, and what is put grows by that.
-use Rattle.intaglio_decode.proofs.Common.{common_steps, length-map}
+use Rattle.intaglio_decode.proofs.Names.{common_steps, length-map}
 use Rattle.std.proofs.Common.{◌∙◌, sym, arith}
 use Rattle.intaglio_lines.proofs.Appended.{Appends-append}
 use Rattle.intaglio_decode.proofs.Symbols.{symbol_lines-more}

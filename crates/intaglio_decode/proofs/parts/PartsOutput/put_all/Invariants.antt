@@ -1,7 +1,7 @@
 -- What was put so far, and what the symbols that are left stand for, is what all symbols stand for.
 use Rattle.std.proofs.Common.{◌≡◌, ℕ, List, ◌++◌, length, map}
 use Rattle.std.specs.Io.KnownBytes.{Appends, append_known}
-use Rattle.intaglio_decode.proofs.Common.{digits_value, decoded, symbol_lines, AreKnown}
+use Rattle.intaglio_decode.proofs.Names.{digits_value, decoded, symbol_lines, AreKnown}
 use Rattle.intaglio_decode.proofs.parts.PartsOutput.put_all.Given as goal
 
 abbrev pub invariant-loop-rest : goal.invariant-loop-rest

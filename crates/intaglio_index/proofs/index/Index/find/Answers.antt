@@ -1,4 +1,4 @@
-use Rattle.intaglio_index.proofs.Common.{common_steps}
+use Rattle.intaglio_index.proofs.Names.{common_steps}
 use Rattle.std.proofs.Common.{◌≡◌, ◌+◌, sym, ◌∙◌, arith, inr}
 use Rattle.intaglio_index.proofs.FilterLemmas.{marked-some}
 use Rattle.intaglio_index.proofs.HeadLemmas.{count_is, numbered, is_occupied, second_within}

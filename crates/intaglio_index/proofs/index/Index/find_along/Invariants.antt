@@ -1,5 +1,5 @@
 use Rattle.std.proofs.Common.{List, length}
-use Rattle.intaglio_index.proofs.Common.{Event, IsReached, bucket_of}
+use Rattle.intaglio_index.proofs.Names.{Event, IsReached, bucket_of}
 use Rattle.intaglio_index.proofs.WalkLemmas.{rest_of}
 use Rattle.intaglio_index.proofs.index.Index.find_along.Given as goal
 

@@ -1,5 +1,5 @@
 use Rattle.std.proofs.Common.{◌≡◌, List, ◌∷◌, [], ◌++◌, ◌%◌}
-use Rattle.intaglio_index.proofs.Common.{Event, step, IsReached}
+use Rattle.intaglio_index.proofs.Names.{Event, step, IsReached}
 use Rattle.intaglio_index.specs.Placed.{chain}
 use Rattle.intaglio_index.proofs.SearchLemmas.{begins_third, second_placed, three_steps, each_some}
 use Rattle.intaglio_index.proofs.index.Index.find_behind.Goals as goal

@@ -1,4 +1,4 @@
-use Rattle.intaglio_index.proofs.Common.{common_steps, eqb-false, Placed, bucket_of, IsReached}
+use Rattle.intaglio_index.proofs.Names.{common_steps, eqb-false, Placed, bucket_of, IsReached}
 use Rattle.std.proofs.Common.{◌≡◌, ◌+◌, ◌%◌, length, ap, ◌∙◌, arith, inl}
 use Rattle.intaglio_index.proofs.FilterLemmas.{marked-some}
 use Rattle.intaglio_index.proofs.HeadLemmas.{count_is, numbered, is_occupied, second_within}

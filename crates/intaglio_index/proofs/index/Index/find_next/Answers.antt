@@ -1,5 +1,5 @@
 use Rattle.std.proofs.Common.{◌≡◌, ℕ, List, ◌∷◌, ◌++◌, sym, ◌∙◌, refl}
-use Rattle.intaglio_index.proofs.Common.{eq-eqb, ne_eqb}
+use Rattle.intaglio_index.proofs.Names.{eq-eqb, ne_eqb}
 use Rattle.intaglio_index.specs.Placed.{chain}
 use Rattle.intaglio_index.proofs.SearchLemmas.{next_with, entry_placed, hash_read}
 use Rattle.intaglio_index.proofs.index.Index.find_next.Goals as goal

@@ -1,4 +1,4 @@
-use Rattle.intaglio_index.proofs.Common.{common_steps, eqb-true}
+use Rattle.intaglio_index.proofs.Names.{common_steps, eqb-true}
 use Rattle.std.proofs.Common.{arith}
 use Rattle.intaglio_index.proofs.ChainLemmas.{chain-bucket, none-placed}
 use Rattle.intaglio_index.proofs.LinkLemmas.{no_buckets}

@@ -1,5 +1,5 @@
 use Rattle.std.proofs.Common.{sym, ap, ◌∙◌}
-use Rattle.intaglio_index.proofs.Common.{option_map, entry_of}
+use Rattle.intaglio_index.proofs.Names.{option_map, entry_of}
 use Rattle.intaglio_index.specs.Placed.{chain}
 use Rattle.intaglio_index.proofs.LinkLemmas.{first_reads, leader_within}
 use Rattle.intaglio_index.proofs.index.Index.first_entry.Goals as goal

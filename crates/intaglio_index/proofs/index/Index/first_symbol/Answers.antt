@@ -1,5 +1,5 @@
 use Rattle.std.proofs.Common.{arith, sym, ap, ◌∙◌, Some}
-use Rattle.intaglio_index.proofs.Common.{first_symbol_of}
+use Rattle.intaglio_index.proofs.Names.{first_symbol_of}
 use Rattle.intaglio_index.proofs.HeadLemmas.{is_vacant, is_occupied, leads, first_within, numbered}
 use Rattle.intaglio_index.proofs.index.Index.first_symbol.Goals as goal
 

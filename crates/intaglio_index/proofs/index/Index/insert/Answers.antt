@@ -1,5 +1,5 @@
 use Rattle.std.proofs.Common.{◌≡◌, ◌<◌, ◌%◌, [], length, arith, ◌∙◌, ap, refl, None}
-use Rattle.intaglio_index.proofs.Common.{chain_from}
+use Rattle.intaglio_index.proofs.Names.{chain_from}
 use Rattle.intaglio_index.specs.Placed.{chain}
 use Rattle.intaglio_index.proofs.HeadLemmas.{is_vacant, head_alone, holds_pushed}
 use Rattle.intaglio_index.proofs.LinkLemmas.{place_first}

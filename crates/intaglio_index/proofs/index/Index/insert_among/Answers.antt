@@ -1,4 +1,4 @@
-use Rattle.intaglio_index.proofs.Common.{common_steps, IsPredecessor}
+use Rattle.intaglio_index.proofs.Names.{common_steps, IsPredecessor}
 use Rattle.std.proofs.Common.{◌≡◌, ℕ, ◌<◌, ◌%◌, length, arith, ◌∙◌}
 use Rattle.intaglio_index.specs.Placed.{chain}
 use Rattle.intaglio_index.proofs.ChainLemmas.{chain-distinct}

@@ -1,5 +1,5 @@
 use Rattle.std.proofs.Common.{length}
-use Rattle.intaglio_index.proofs.Common.{IsAt, bucket_of}
+use Rattle.intaglio_index.proofs.Names.{IsAt, bucket_of}
 use Rattle.intaglio_index.proofs.WalkLemmas.{rest_of}
 use Rattle.intaglio_index.proofs.index.Index.last_below.Given as goal
 

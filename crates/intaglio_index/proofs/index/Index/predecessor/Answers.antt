@@ -1,4 +1,4 @@
-use Rattle.intaglio_index.proofs.Common.{common_steps}
+use Rattle.intaglio_index.proofs.Names.{common_steps}
 use Rattle.std.proofs.Common.{◌≡◌, ℕ, ◌<◌, ◌+◌, ◌%◌, ◌∷◌, ◌++◌, sym, ap, ◌∙◌, arith, inl, inr}
 use Rattle.intaglio_index.proofs.HeadLemmas.{IsOccupied, count_is, numbered, is_vacant, is_occupied, first_within, second_within}
 use Rattle.intaglio_index.proofs.SearchLemmas.{begins_above, first_precedes, behind_second}

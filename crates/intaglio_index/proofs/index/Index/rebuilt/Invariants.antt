@@ -1,5 +1,5 @@
 use Rattle.std.proofs.Common.{◌≡◌, ◌++◌, take, replicate}
-use Rattle.intaglio_index.proofs.Common.{placed}
+use Rattle.intaglio_index.proofs.Names.{placed}
 use Rattle.intaglio_index.proofs.index.Index.rebuilt.Given as goal
 
 abbrev pub invariant-loop-i : goal.invariant-loop-i

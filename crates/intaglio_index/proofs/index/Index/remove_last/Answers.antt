@@ -1,5 +1,5 @@
 use Rattle.std.proofs.Common.{◌≡◌, ℕ, ◌%◌, ◌+◌, ◌-◌, [], length, arith, ◌∙◌, sym, Some, ap}
-use Rattle.intaglio_index.proofs.Common.{Placed, chain_from, first_symbol_of, next_of}
+use Rattle.intaglio_index.proofs.Names.{Placed, chain_from, first_symbol_of, next_of}
 use Rattle.intaglio_index.specs.Placed.{chain}
 use Rattle.intaglio_index.proofs.HeadLemmas.{IsOccupied, count_is, numbered, is_occupied_by, never_behind, first_within, leads, nil_leader, holds_vacated, holds_read}
 use Rattle.intaglio_index.proofs.LinkLemmas.{cut_first, cut_behind, predecessor_below, thread_of}

@@ -1,5 +1,5 @@
 use Rattle.std.proofs.Common.{◌<◌, ◌/◌, ◌^◌, ◌∙◌, arith, inl, inr, ℕ, w8}
-use Rattle.intaglio_index.proofs.Common.{eqb_tells, bit_at_set_same, bit_at_set_other}
+use Rattle.intaglio_index.proofs.Names.{eqb_tells, bit_at_set_same, bit_at_set_other}
 use Rattle.intaglio_index.proofs.index.filter.marked.Goals as goal
 
 pub returns-clause-set : goal.returns-clause-set

@@ -1,4 +1,4 @@
-use Rattle.intaglio_index.proofs.Common.{common_steps}
+use Rattle.intaglio_index.proofs.Names.{common_steps}
 use Rattle.std.proofs.Common.{◌/◌, ◌*◌, ◌^◌, ◌≤◌, ◌<◌, ◌+◌, arith}
 use Rattle.intaglio_index.proofs.Remainders.{by_reciprocal, by_reciprocal_near, rest_is}
 use Rattle.intaglio_index.proofs.index.modulus.remainder.Goals as goal

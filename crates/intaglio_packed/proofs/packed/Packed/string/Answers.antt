@@ -1,5 +1,5 @@
 use Rattle.std.proofs.Common.{length, ◌<◌}
-use Rattle.intaglio_packed.proofs.Common.{get_or_from_slice_get, strings_of}
+use Rattle.intaglio_packed.proofs.Names.{get_or_from_slice_get, strings_of}
 use Rattle.intaglio_packed.proofs.packed.Packed.string.Goals as goal
 
 pub returns-clause-kind : goal.returns-clause-kind

@@ -1,4 +1,4 @@
-use Rattle.intaglio_packed.proofs.Common.{common_steps, record_room_of, same_pairs, over_same}
+use Rattle.intaglio_packed.proofs.Names.{common_steps, record_room_of, same_pairs, over_same}
 use Rattle.std.proofs.Common.{◌≡◌, [], sym, arith}
 use Rattle.intaglio_packed.proofs.packed_index.RecordIndexIndexOfPacked.clear.Goals as goal
 

@@ -1,4 +1,4 @@
-use Rattle.intaglio_packed.proofs.Common.{common_steps, length-map, slice_get-map, slice_get_within, Key, IsLeft, hashes_of, strings_of, IsSearching, compared-as, ends, finds, goes_on, none_passed}
+use Rattle.intaglio_packed.proofs.Names.{common_steps, length-map, slice_get-map, slice_get_within, Key, IsLeft, hashes_of, strings_of, IsSearching, compared-as, ends, finds, goes_on, none_passed}
 use Rattle.std.proofs.Common.{◌≡◌, ◌<◌, ℕ, List, ◌∷◌, length, map, sym, refl, arith, ◌∙◌, Some, None, true}
 use Rattle.std.proofs.lemmas.Simd.{map-map}
 use Rattle.intaglio_content.specs.Store.{IsCompared}

@@ -1,5 +1,5 @@
 use Rattle.std.proofs.Common.{ℕ, List, map}
-use Rattle.intaglio_packed.proofs.Common.{strings_of, AreAll, IsLeft, most_left, IsSearching}
+use Rattle.intaglio_packed.proofs.Names.{strings_of, AreAll, IsLeft, most_left, IsSearching}
 use Rattle.intaglio_packed.proofs.packed_index.RecordIndexIndexOfPacked.search.Given as goal
 
 -- the numbers of the strings with the hash, and those that are left

@@ -1,4 +1,4 @@
-use Rattle.intaglio_packed.proofs.Common.{common_steps, take-map, record_room_of, same_pairs, over_same}
+use Rattle.intaglio_packed.proofs.Names.{common_steps, take-map, record_room_of, same_pairs, over_same}
 use Rattle.std.proofs.Common.{◌≡◌, take, sym, ◌∙◌, arith}
 use Rattle.intaglio_packed.proofs.packed_index.RecordIndexIndexOfPacked.truncate.Goals as goal
 

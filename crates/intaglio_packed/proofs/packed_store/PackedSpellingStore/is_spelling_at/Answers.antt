@@ -1,5 +1,5 @@
 use Rattle.std.proofs.Common.{[], length, ◌<◌}
-use Rattle.intaglio_packed.proofs.Common.{slice_get-get_or, strings_of}
+use Rattle.intaglio_packed.proofs.Names.{slice_get-get_or, strings_of}
 use Rattle.intaglio_packed.proofs.packed_store.PackedSpellingStore.is_spelling_at.Goals as goal
 
 pub returns : goal.returns

@@ -1,5 +1,5 @@
 use Rattle.std.proofs.Common.{ℕ, List, sym}
-use Rattle.intaglio_packed.proofs.Common.{take-map, All-take, strings_of}
+use Rattle.intaglio_packed.proofs.Names.{take-map, All-take, strings_of}
 use Rattle.intaglio_packed.proofs.packed_store.PackedStore.truncate.Goals as goal
 
 pub invariant_of-self : goal.invariant_of-self

@@ -1,5 +1,5 @@
 use Rattle.std.proofs.Common.{◌≤◌, ◌^◌, length, map, refl, arith, ap}
-use Rattle.intaglio_records.proofs.Common.{concat, length-map, All-permutation, IsFilled, candidates, slots_of, pair_of, entries, IsSlot, begin_of, numbers_with}
+use Rattle.intaglio_records.proofs.Names.{concat, length-map, All-permutation, IsFilled, candidates, slots_of, pair_of, entries, IsSlot, begin_of, numbers_with}
 use Rattle.intaglio_records.proofs.EntryLemmas.{entries-all}
 use Rattle.intaglio_records.proofs.MatchLemmas.{all-found, slots-all}
 use Rattle.intaglio_records.proofs.RecordLemmas.{are-long}

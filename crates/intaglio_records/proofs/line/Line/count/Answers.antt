@@ -1,4 +1,4 @@
-use Rattle.intaglio_records.proofs.Common.{common_steps, bit_at, trailing_zeros, bit_at-trailing_zeros, cases_order}
+use Rattle.intaglio_records.proofs.Names.{common_steps, bit_at, trailing_zeros, bit_at-trailing_zeros, cases_order}
 use Rattle.std.proofs.Common.{◌≡◌, ◌<◌, ◌==◌, cond, length, arith, w64, ap, ◌∙◌}
 use Rattle.intaglio_records.proofs.LineLemmas.{entry-tag}
 use Rattle.intaglio_records.proofs.line.Line.count.Goals as goal

@@ -1,4 +1,4 @@
-use Rattle.intaglio_records.proofs.Common.{common_steps, get_or-map, get_or_past, length-map}
+use Rattle.intaglio_records.proofs.Names.{common_steps, get_or-map, get_or_past, length-map}
 use Rattle.std.proofs.Common.{◌≡◌, eqb, arith, w8, length}
 use Rattle.std.proofs.lemmas.Simd.{bitmask_splat, bit_mask_l}
 use Rattle.intaglio_records.proofs.line.Line.equal.Goals as goal

@@ -1,4 +1,4 @@
-use Rattle.intaglio_records.proofs.Common.{common_steps, first_line, overflow, newest}
+use Rattle.intaglio_records.proofs.Names.{common_steps, first_line, overflow, newest}
 use Rattle.std.proofs.Common.{◌≡◌, ◌<◌, length, arith, mod-lt}
 use Rattle.intaglio_records.proofs.LineLemmas.{tag-some}
 use Rattle.intaglio_records.proofs.Placing.{first-is}

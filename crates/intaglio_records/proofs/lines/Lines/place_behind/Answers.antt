@@ -1,4 +1,4 @@
-use Rattle.intaglio_records.proofs.Common.{common_steps, newest, overflow, no_line, IsFilled, Entry, IsLine, Line, Lines}
+use Rattle.intaglio_records.proofs.Names.{common_steps, newest, overflow, no_line, IsFilled, Entry, IsLine, Line, Lines}
 use Rattle.std.proofs.Common.{◌≡◌, ℕ, ◌%◌, ◌<◌, List, ◌∷◌, length, get_or, refl, arith, mod-lt}
 use Rattle.intaglio_records.proofs.ChainLemmas.{read-line}
 use Rattle.intaglio_records.proofs.Tops.{length-none}

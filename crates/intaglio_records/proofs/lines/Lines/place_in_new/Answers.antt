@@ -1,4 +1,4 @@
-use Rattle.intaglio_records.proofs.Common.{common_steps, get_or_append_left}
+use Rattle.intaglio_records.proofs.Names.{common_steps, get_or_append_left}
 use Rattle.std.proofs.Common.{◌≡◌, ◌<◌, [], ◌∷◌, length, get_or, refl, ap, ◌∙◌, arith, mod-lt}
 use Rattle.intaglio_records.proofs.Placing.{place-new, all-full, first-is, refilled}
 use Rattle.intaglio_records.proofs.lines.Lines.place_in_new.Goals as goal

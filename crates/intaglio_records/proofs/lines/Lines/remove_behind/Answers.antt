@@ -1,5 +1,5 @@
 use Rattle.std.proofs.Common.{ℕ, ◌<◌, List, [], ◌∷◌, length, get_or, refl, ◌∙◌, arith, mod-lt}
-use Rattle.intaglio_records.proofs.Common.{Entry, IsLine, no_line}
+use Rattle.intaglio_records.proofs.Names.{Entry, IsLine, no_line}
 use Rattle.intaglio_records.proofs.ChainLemmas.{read-line}
 use Rattle.intaglio_records.proofs.Tops.{first-full}
 use Rattle.intaglio_records.proofs.Placing.{first-is, newest-in, other-is, refilled}

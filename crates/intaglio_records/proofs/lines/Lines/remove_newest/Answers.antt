@@ -1,5 +1,5 @@
 use Rattle.std.proofs.Common.{ℕ, ◌<◌, List, ◌∷◌, length, get_or, refl, arith, mod-lt}
-use Rattle.intaglio_records.proofs.Common.{Entry, IsLine, no_line}
+use Rattle.intaglio_records.proofs.Names.{Entry, IsLine, no_line}
 use Rattle.intaglio_records.proofs.ChainLemmas.{read-line}
 use Rattle.intaglio_records.proofs.Placing.{first-is, refilled}
 use Rattle.intaglio_records.proofs.Removing.{is-in, in_first, in_newest, in_new, remove-first}

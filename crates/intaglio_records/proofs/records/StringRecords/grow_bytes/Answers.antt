@@ -1,4 +1,4 @@
-use Rattle.intaglio_records.proofs.Common.{common_steps}
+use Rattle.intaglio_records.proofs.Names.{common_steps}
 use Rattle.std.proofs.Common.{sum_by, arith}
 use Rattle.std.proofs.lemmas.Result.{on_ok_weaker}
 use Rattle.intaglio_records.proofs.RecordLemmas.{are-long, ok-or-err, strings-bytes, strings_in}

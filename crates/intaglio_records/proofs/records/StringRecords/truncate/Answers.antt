@@ -1,4 +1,4 @@
-use Rattle.intaglio_records.proofs.Common.{common_steps, length-take}
+use Rattle.intaglio_records.proofs.Names.{common_steps, length-take}
 use Rattle.std.proofs.Common.{arith}
 use Rattle.intaglio_records.proofs.RecordLemmas.{are-long, headers-behind, records-take, room-is}
 use Rattle.intaglio_records.proofs.records.StringRecords.truncate.Goals as goal

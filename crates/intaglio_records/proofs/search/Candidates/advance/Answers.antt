@@ -1,4 +1,4 @@
-use Rattle.intaglio_records.proofs.Common.{common_steps, bit_at, bit_at-zero, newest, no_line}
+use Rattle.intaglio_records.proofs.Names.{common_steps, bit_at, bit_at-zero, newest, no_line}
 use Rattle.std.proofs.Common.{length, get_or, ap, ◌∙◌, arith}
 use Rattle.intaglio_records.proofs.ChainLemmas.{newest-at}
 use Rattle.intaglio_records.proofs.Searching.{next-line, next-inside, picked-none, picked-fresh}

@@ -1,4 +1,4 @@
-use Rattle.intaglio_records.proofs.Common.{common_steps, bit_at, trailing_zeros, bit_at-zero, bit_at-trailing_zeros, bit_at_clear_same, bit_at_clear_other, no_line, overflow_slots, picked}
+use Rattle.intaglio_records.proofs.Names.{common_steps, bit_at, trailing_zeros, bit_at-zero, bit_at-trailing_zeros, bit_at_clear_same, bit_at_clear_other, no_line, overflow_slots, picked}
 use Rattle.std.proofs.Common.{◌≡◌, ◌≢◌, ℕ, ◌-◌, ◌*◌, ◌%◌, ◌^◌, ◌<◌, ◌++◌, get_or, refl, arith, w64, bit_and}
 use Rattle.intaglio_records.specs.Search.{most_left}
 use Rattle.intaglio_records.proofs.Searching.{picked-none, picked-first, overflow-none, bits-few, bits-fewer}

@@ -1,5 +1,5 @@
 use Rattle.std.proofs.Common.{◌≤◌}
-use Rattle.intaglio_records.proofs.Common.{IsSearch, LeavesAll}
+use Rattle.intaglio_records.proofs.Names.{IsSearch, LeavesAll}
 use Rattle.intaglio_records.specs.Search.{most_left}
 use Rattle.intaglio_records.proofs.search.Candidates.next.Given as goal
 

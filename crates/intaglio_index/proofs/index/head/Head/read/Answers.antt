@@ -1,4 +1,4 @@
-use Rattle.intaglio_index.proofs.Common.{common_steps}
+use Rattle.intaglio_index.proofs.Names.{common_steps}
 use Rattle.std.proofs.Common.{sym, ◌∙◌, arith}
 use Rattle.intaglio_index.proofs.HeadLemmas.{thread_within, thread_next}
 use Rattle.intaglio_index.proofs.index.head.Head.read.Goals as goal

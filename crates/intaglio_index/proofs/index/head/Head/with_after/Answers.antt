@@ -1,5 +1,5 @@
 use Rattle.std.proofs.Common.{sym, ◌∙◌}
-use Rattle.intaglio_index.proofs.Common.{eqb-true, eqb-false}
+use Rattle.intaglio_index.proofs.Names.{eqb-true, eqb-false}
 use Rattle.intaglio_index.proofs.HeadLemmas.{head_second, head_stays, never_behind, nil_leader}
 use Rattle.intaglio_index.proofs.index.head.Head.with_after.Goals as goal
 

@@ -1,5 +1,5 @@
 use Rattle.std.proofs.Common.{◌≡◌, ◌↔◌, ◌+◌, ◌/◌, ◌≤◌}
-use Rattle.intaglio_index.proofs.Common.{bit_xor, leb-true, le-leb}
+use Rattle.intaglio_index.proofs.Names.{bit_xor, leb-true, le-leb}
 use Rattle.intaglio_index.proofs.Words.{agrees_is}
 use Rattle.intaglio_index.proofs.index.modulus.Modulus.agrees.Goals as goal
 

@@ -1,4 +1,4 @@
-use Rattle.intaglio_index.proofs.Common.{common_steps, div-add-mod'}
+use Rattle.intaglio_index.proofs.Names.{common_steps, div-add-mod'}
 use Rattle.std.proofs.Common.{arith}
 use Rattle.intaglio_index.proofs.Remainders.{masked}
 use Rattle.intaglio_index.proofs.index.modulus.Modulus.high.Goals as goal

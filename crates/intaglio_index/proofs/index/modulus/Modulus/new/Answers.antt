@@ -1,4 +1,4 @@
-use Rattle.intaglio_index.proofs.Common.{common_steps, IsPowerOfTwo}
+use Rattle.intaglio_index.proofs.Names.{common_steps, IsPowerOfTwo}
 use Rattle.std.proofs.Common.{◌+◌, ◌<◌, ◌≤◌, ◌^◌, arith, refl}
 use Rattle.intaglio_index.proofs.index.modulus.Modulus.new.Goals as goal
 use Rattle.intaglio_index.proofs.index.modulus.Modulus.new.Goals.{in-Some, in-None}

@@ -1,5 +1,5 @@
 use Rattle.std.proofs.Common.{◌≡◌, ◌+◌, ◌%◌, refl, ◌∙◌}
-use Rattle.intaglio_index.proofs.Common.{bit_and}
+use Rattle.intaglio_index.proofs.Names.{bit_and}
 use Rattle.intaglio_index.proofs.Remainders.{masked}
 use Rattle.intaglio_index.proofs.index.modulus.Modulus.symbol.Goals as goal
 

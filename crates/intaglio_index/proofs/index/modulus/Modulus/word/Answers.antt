@@ -1,4 +1,4 @@
-use Rattle.intaglio_index.proofs.Common.{common_steps}
+use Rattle.intaglio_index.proofs.Names.{common_steps}
 use Rattle.std.proofs.Common.{◌+◌, arith}
 use Rattle.intaglio_index.proofs.Words.{word_is, word_fits}
 use Rattle.intaglio_index.proofs.index.modulus.Modulus.word.Goals as goal
