@@ -30,12 +30,6 @@ pub added : (old new : State (List ℕ)) (w : List ℕ) (s : ℕ) →
     new.contents ≡ old.contents ++ w ∷ []
 added old new w s step past = grind (arith, common_steps, by-found, key, some-below, length-map)
 
--- the first i + 1 strings are the first i and the string at i
-pub take-next : (ws : List (List ℕ)) (i : ℕ) (w : List ℕ) → slice_get ws i ≡ Some w →
-    take (i + 1) ws ≡ take i ws ++ w ∷ []
-take-next ws i w at = (take_at_read ws i w (slice_get_within ws i w at)).1
-    ∙ ap (λ t. take i ws ++ t ∷ []) (get_or_from_slice_get ws i w w at)
-
 -- at a position below i, the first i strings have what all strings have there
 slice_get-take : (ws : List (List ℕ)) (i k : ℕ) → k < i → slice_get (take i ws) k ≡ slice_get ws k
 slice_get-take ws zero k l = absurd (omega (arith, l))

@@ -7,6 +7,7 @@ use Rattle.std.specs.declared.hash.DefaultHasher.{DefaultHasher}
 use Rattle.std.proofs.lemmas.List.{drop_all, drop_more}
 use Rattle.std.proofs.lemmas.List.Sums.{fold-append}
 use Rattle.std.proofs.lemmas.Option.{slice_get_within, get_or_from_slice_get}
+use Rattle.intaglio_frozen.proofs.HashedAhead.{drop_there}
 use Rattle.intaglio_frozen.specs.Id.{end_behind, end_bytes}
 
 -- bytes behind others
@@ -23,12 +24,6 @@ written-behind h now xs ys written = ap (λ t. write t ys) written ∙ write-beh
 pub write-none : (h : DefaultHasher) → write h [] ≡ h
 unfolding write
 write-none h = refl
-
--- what is left of a list begins with its item
-cut-at : {X : Type 0} (xs : List X) (i : ℕ) (x : X) → slice_get xs i ≡ Some x →
-    drop i xs ≡ x ∷ drop (i + 1) xs
-cut-at xs i x at = drop_more xs i x (slice_get_within xs i x at)
-    ∙ ap (λ y. y ∷ drop (i + 1) xs) (get_or_from_slice_get xs i x x at)
 
 -- the bytes of one more item
 pub next-item : {X : Type 0} (f : X → List ℕ) (h now : DefaultHasher) (i : ℕ) (d : X) (xs : List X) →
@@ -52,7 +47,7 @@ next-end h now end next i w ws at is written =
     let left = drop (i + 1) ws in
     let rest = end_bytes next left in
     let whole : end_bytes end (drop i ws) ≡ to_le_bytes w32 next ++ rest =
-    ap (end_bytes end) (cut-at ws i w at) ∙ ap (λ e. to_le_bytes w32 e ++ end_bytes e left) (sym is) in
+    ap (end_bytes end) (drop_there ws i w at) ∙ ap (λ e. to_le_bytes w32 e ++ end_bytes e left) (sym is) in
     written-behind h now (to_le_bytes w32 next) rest written ∙ ap (write h) (sym whole)
 
 -- if no strings are left, their ends leave a hasher as it is
@@ -67,7 +62,7 @@ pub next-text : (h now : DefaultHasher) (i : ℕ) (w : List ℕ) (ws : List (Lis
 next-text h now i w ws at written =
     let rest = concat (drop (i + 1) ws) in
     written-behind h now w rest written
-    ∙ ap (λ t. write h (concat t)) (sym (cut-at ws i w at))
+    ∙ ap (λ t. write h (concat t)) (sym (drop_there ws i w at))
 
 -- if no strings are left, their bytes leave a hasher as it is
 pub last-text : (h : DefaultHasher) (i : ℕ) (ws : List (List ℕ)) → length ws ≤ i →

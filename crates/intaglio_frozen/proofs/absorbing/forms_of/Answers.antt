@@ -1,6 +1,6 @@
 use Rattle.std.proofs.lemmas.Grind.{common_steps}
 use Rattle.std.proofs.Common.{◌≡◌, ◌∙◌, ◌++◌, [], ◌∷◌, rules, arith}
-use Rattle.intaglio_frozen.proofs.Distinct.{take-next}
+use Rattle.intaglio_frozen.proofs.HashedAhead.{take_there}
 use Rattle.intaglio_frozen.proofs.absorbing.forms_of.Goals as goal
 
 pub loop-i-preserved : goal.loop-i-preserved
@@ -11,7 +11,7 @@ loop-i-preserved g c =
     let form = c.from_string.result in
     let string = c.string.result.now in
     let items : c.push_reserved.new.self.items ≡ c.loop-i.forms.items ++ form ∷ [] = search rules in
-    let next = take-next strings c.loop-i.i string c.string.ensures in
+    let next = take_there strings c.loop-i.i string c.string.ensures in
     record {
       forms = grind (arith, common_steps);
       needs = grind (arith, common_steps);

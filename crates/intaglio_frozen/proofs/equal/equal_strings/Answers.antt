@@ -1,7 +1,8 @@
 use Rattle.std.proofs.Common.{◌≡◌, ◌∙◌, ◌∷◌, ◌++◌, [], length, take, sym, ap, arith}
 use Rattle.std.proofs.lemmas.List.{length-take-le, take_all}
 use Rattle.std.proofs.lemmas.Option.{slice_get_within}
-use Rattle.intaglio_frozen.proofs.Distinct.{added, again, none-equal, take-next}
+use Rattle.intaglio_frozen.proofs.Distinct.{added, again, none-equal}
+use Rattle.intaglio_frozen.proofs.HashedAhead.{take_there}
 use Rattle.intaglio_frozen.proofs.equal.equal_strings.Goals as goal
 
 pub loop-i-preserved : goal.loop-i-preserved
@@ -16,7 +17,7 @@ loop-i-preserved g c =
     c.in_ok-symbol.ensures.step (omega (arith, size, c.id.ensures, c.if-id-i.false)) in
     record {
       contents = new ∙ ap (λ t. t ++ w ∷ []) c.loop-i.invariant.contents
-          ∙ sym (take-next ws i w c.string.ensures);
+          ∙ sym (take_there ws i w c.string.ensures);
       distinct = c.in_ok-symbol.ensures.valid.distinct;
     }
 

@@ -1,7 +1,7 @@
 use Rattle.std.proofs.lemmas.Grind.{common_steps}
 use Rattle.std.proofs.Common.{◌≡◌, ◌∙◌, ◌<◌, ◌++◌, [], ◌∷◌, take, rules, arith}
 use Rattle.intaglio_frozen.specs.Shards.{shard_of}
-use Rattle.intaglio_frozen.proofs.Distinct.{take-next}
+use Rattle.intaglio_frozen.proofs.HashedAhead.{take_there}
 use Rattle.intaglio_frozen.proofs.sharding.shards_of.Goals as goal
 
 pub loop-i-preserved : goal.loop-i-preserved
@@ -12,7 +12,7 @@ loop-i-preserved g c =
     let string = c.string.result.now in
     let items : c.push_reserved.new.self.items ≡ c.loop-i.shards.items ++ c.shard_of.result ∷ [] =
     search rules in
-    let next = take-next strings c.loop-i.i string c.string.ensures in
+    let next = take_there strings c.loop-i.i string c.string.ensures in
     record {
       shards = grind (arith, common_steps);
       below = grind (arith, common_steps);
