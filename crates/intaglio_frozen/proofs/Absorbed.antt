@@ -18,10 +18,8 @@ use Rattle.intaglio_frozen.specs.Merging.{decode, string_key, union, AreKeys, Ar
 issued-there : (held : List (List ℕ)) (w : List ℕ) →
     slice_get (interned string_key held w) (issued string_key held w) ≡ Some w
 issued-there held w =
-    let new = interned string_key held w in
-    let h = mapped-some string_key (slice_get new (issued string_key held w)) (string_key w)
-    (first-key string_key new (string_key w) (issued string_key held w) (issued-found string_key held w)) in
-    let key : string_key h.0 ≡ string_key w = h.2 in
+    let h = mapped-some string_key _ (string_key w)
+    (first-key string_key (interned string_key held w) (string_key w) (issued string_key held w) (issued-found string_key held w)) in
     let same : h.0 ≡ w = cc in
     h.1 ∙ ap Some same
 
@@ -29,15 +27,9 @@ issued-there held w =
 pub map-still : (held more ws : List (List ℕ)) (numbers : List ℕ) → IsMap ws held numbers →
     IsMap ws (interned_all string_key held more) numbers
 map-still held more [] [] is = refl
-map-still held more [] (n ∷ numbers) is = cc
-map-still held more (w ∷ ws) [] is = cc
 map-still held more (w ∷ ws) (n ∷ numbers) is =
-    let here : slice_get held n ≡ Some w = cc in
-    let rest : decode held numbers ≡ map Some ws = cc in
-    let one : slice_get (interned_all string_key held more) n ≡ Some w =
-    content-still string_key held more n w here in
-    let others = map-still held more ws numbers rest in
-    rw (one, others) refl
+    rw (content-still string_key held more n w (cc), map-still held more ws numbers (cc)) refl
+map-still held more ws numbers is = cc
 
 -- the symbols that strings are given are their map
 pub issued-map : (held ws : List (List ℕ)) →
@@ -45,10 +37,10 @@ pub issued-map : (held ws : List (List ℕ)) →
 issued-map held [] = refl
 issued-map held (w ∷ ws) =
     let next = interned string_key held w in
-    let one : slice_get (interned_all string_key next ws) (issued string_key held w) ≡ Some w =
-    content-still string_key next ws (issued string_key held w) w (issued-there held w) in
-    let others = issued-map next ws in
-    rw (one, others) refl
+    rw (
+      content-still string_key next ws (issued string_key held w) w (issued-there held w),
+      issued-map next ws,
+    ) refl
 
 -- the same by keys that are those of strings
 pub issued-map-by : (key : List ℕ → Key) → AreKeys key → (held ws new : List (List ℕ)) (symbols : List ℕ) →
@@ -63,34 +55,22 @@ issued-map-by key same held ws new symbols given after =
 pub maps-still : (held more : List (List ℕ)) (lists : List (List (List ℕ))) (maps : List (List ℕ)) →
     AreMaps lists held maps → AreMaps lists (interned_all string_key held more) maps
 maps-still held more [] [] are = refl
-maps-still held more [] (m ∷ maps) are = cc
-maps-still held more (ws ∷ lists) [] are = cc
 maps-still held more (ws ∷ lists) (m ∷ maps) are =
-    let here : decode held m ≡ map Some ws = cc in
-    let rest : map (decode held) maps ≡ map (map Some) lists = cc in
-    let one : decode (interned_all string_key held more) m ≡ map Some ws = map-still held more ws m here in
-    let others = maps-still held more lists maps rest in
-    rw (one, others) refl
+    rw (map-still held more ws m (cc), maps-still held more lists maps (cc)) refl
+maps-still held more lists maps are = cc
 
 -- what is held after the lists so far and one more, and the maps
 module _ (lists : List (List (List ℕ))) (ws : List (List ℕ)) where
   pub union-next : union (lists ++ ws ∷ []) ≡ interned_all string_key (union lists) ws
-  union-next =
-      let all = λ (strings : List (List ℕ)). strings in
-      let parts : flat_map all (lists ++ ws ∷ []) ≡ flat_map all lists ++ ws =
-      flat_map-append all lists (ws ∷ []) ∙ ap (λ t. flat_map all lists ++ t) (append-nil ws) in
-      rw parts (interned_all-append string_key [] (flat_map all lists) ws)
+  union-next = grind (arith, common_steps, interned_all-append)
 
   pub maps-next : (maps : List (List ℕ)) (symbols : List ℕ) → AreMaps lists (union lists) maps →
       IsMap ws (union (lists ++ ws ∷ [])) symbols
       → AreMaps (lists ++ ws ∷ []) (union (lists ++ ws ∷ [])) (maps ++ symbols ∷ [])
   maps-next maps symbols are is =
-      let new = union (lists ++ ws ∷ []) in
-      let before : map (decode new) maps ≡ map (map Some) lists =
-      subst (λ (t : List (List ℕ)). AreMaps lists t maps) (sym union-next)
-      (maps-still (union lists) ws lists maps are) in
-      map-append (decode new) maps (symbols ∷ []) ∙ ap (λ t. t ++ decode new symbols ∷ []) before
-      ∙ ap (λ t. map (map Some) lists ++ t ∷ []) is ∙ sym (map-append (map Some) lists (ws ∷ []))
+      let before : AreMaps lists (union (lists ++ ws ∷ [])) maps =
+      rw union-next (maps-still (union lists) ws lists maps are) in
+      grind (arith, common_steps)
 
 -- what is more than the limit after the first lists is more than it after all
 pub union-over : (limit i : ℕ) (lists : List (List (List ℕ))) → limit < length (union (take i lists)) →

@@ -1,14 +1,14 @@
 -- No two strings of all shards are equal, if no two of one shard are.
 use Rattle.std.proofs.Common.{◌≡◌, ◌∙◌, ℕ, suc, ◌+◌, ◌-◌, ◌<◌, ◌≤◌, List, [], ◌∷◌, ◌++◌, get_or, length, map, Some, refl, sym, ap, arith, inl, inr}
 use Rattle.std.specs.Prelude.{slice_get}
-use Rattle.std.proofs.lemmas.Bool.{cases_order}
+use Rattle.std.proofs.lemmas.Bool.{cases_lt}
 use Rattle.std.proofs.lemmas.List.{length-map, get_or-map}
 use Rattle.std.proofs.lemmas.Option.{slice_get-get_or}
 use Rattle.intaglio_interner.specs.State.{Distinct}
 use Rattle.intaglio_frozen.specs.Merging.{string_key}
 use Rattle.intaglio_frozen.specs.Shards.{AreAllDistinct, AreEachDistinct, AreShards, joined, shard_of}
 use Rattle.intaglio_frozen.proofs.Renumbered.{apart}
-use Rattle.intaglio_frozen.proofs.Sharded.{at-back, at-front}
+use Rattle.intaglio_frozen.proofs.Sharded.{at-front, past-front}
 
 -- no string stands at two positions
 abbrev Apart : List (List ℕ) → Type 0
@@ -18,49 +18,17 @@ Apart ws = (i j : ℕ) (w : List ℕ) → i < j → slice_get ws i ≡ Some w �
 pub distinct-from : (ws : List (List ℕ)) → Apart ws → Distinct string_key ws
 distinct-from ws alone i j d below within same =
     let most : j < length ws = omega (arith, within, length-map ws string_key) in
-    let at-i = slice_get-get_or ws i [] (omega (arith, below, most)) in
     let at-j = slice_get-get_or ws j [] most in
-    let key-i : get_or (map string_key ws) i d ≡ string_key (get_or ws i []) =
-    get_or-map string_key ws i [] d (omega (arith, below, most)) in
-    let key-j : get_or (map string_key ws) j d ≡ string_key (get_or ws j []) =
-    get_or-map string_key ws j [] d most in
-    let keys : string_key (get_or ws i []) ≡ string_key (get_or ws j []) = sym key-i ∙ same ∙ key-j in
-    let strings : get_or ws i [] ≡ get_or ws j [] = cc in
-    alone i j (get_or ws i []) below at-i (at-j ∙ ap Some (sym strings))
+    let first = get_or-map string_key ws i [] d (omega (arith, below, most)) in
+    let strings : get_or ws i [] ≡ get_or ws j [] = cc (first, get_or-map string_key ws j [] d most) in
+    alone i j (get_or ws i []) below (slice_get-get_or ws i [] (omega (arith, below, most)))
+    (at-j ∙ ap Some (sym strings))
 
 -- of two lists, if they have no string in common
-module _ (us vs : List (List ℕ)) (first : Apart us) (second : Apart vs)
-    (others : (i j : ℕ) (w : List ℕ) → slice_get us i ≡ Some w → slice_get vs j ≡ Some w → ⊥) where
-  -- the second of two positions is in the second list
-  behind : (i j : ℕ) (w : List ℕ) → i < j → length us ≤ j → slice_get (us ++ vs) i ≡ Some w →
-      slice_get (us ++ vs) j ≡ Some w → ⊥
-  behind i j w below past one other =
-      let in-second = λ (k : ℕ) (from : length us ≤ k) (at : slice_get (us ++ vs) k ≡ Some w).
-      let sum : length us + (k - length us) ≡ k = omega (arith, from) in
-      sym (at-back us vs (k - length us)) ∙ ap (slice_get (us ++ vs)) sum ∙ at in
-      elim (cases_order i (length us)) as (λ _. ⊥) [
-        | inl same ↦
-            second (i - length us) (j - length us) w (omega (arith, below, past, same))
-            (in-second i (omega (arith, same)) one) (in-second j past other)
-        | inr unequal ↦ elim unequal as (λ _. ⊥) [
-          | inl before ↦
-              others i (j - length us) w (sym (at-front us vs i before) ∙ one) (in-second j past other)
-          | inr after ↦
-              second (i - length us) (j - length us) w (omega (arith, below, after))
-              (in-second i (omega (arith, after)) one) (in-second j past other)
-        ]
-      ]
-
-  pub together : Apart (us ++ vs)
-  together i j w below one other =
-      elim (cases_order j (length us)) as (λ _. ⊥) [
-        | inl same ↦ behind i j w below (omega (arith, same)) one other
-        | inr unequal ↦ elim unequal as (λ _. ⊥) [
-          | inl before ↦ first i j w below (sym (at-front us vs i (omega (arith, below, before)))
-              ∙ one) (sym (at-front us vs j before) ∙ other)
-          | inr after ↦ behind i j w below (omega (arith, after)) one other
-        ]
-      ]
+together : (us vs : List (List ℕ)) → Apart us → Apart vs
+    → ((i j : ℕ) (w : List ℕ) → slice_get us i ≡ Some w → slice_get vs j ≡ Some w → ⊥) → Apart (us ++ vs)
+together us vs first second others i j w below one other =
+    grind (arith, at-front us vs i, at-front us vs j, past-front us vs i, past-front us vs j, first i j w, second (i - length us) (j - length us) w, others i (j - length us) w)
 
 -- lists of which each string has the number of its list, where the first has the number m
 abbrev Numbered : (List ℕ → ℕ) → ℕ → List (List (List ℕ)) → Type 0
@@ -77,17 +45,9 @@ at-least : (shard : List ℕ → ℕ) (m : ℕ) (shards : List (List (List ℕ))
     (j : ℕ) (w : List ℕ) → slice_get (joined shards) j ≡ Some w → m ≤ shard w
 at-least shard m [] placed j w at = cc
 at-least shard m (us ∷ shards) placed j w at =
-    let later = λ (past : length us ≤ j).
-    let sum : length us + (j - length us) ≡ j = omega (arith, past) in
-    let there : slice_get (joined shards) (j - length us) ≡ Some w =
-    sym (at-back us (joined shards) (j - length us)) ∙ ap (slice_get (us ++ joined shards)) sum ∙ at in
-    at-least shard (m + 1) shards (numbered-rest shard m us shards placed) (j - length us) w there in
-    elim (cases_order j (length us)) as (λ _. m ≤ shard w) [
-      | inl same ↦ omega (arith, later (omega (arith, same)))
-      | inr unequal ↦ elim unequal as (λ _. m ≤ shard w) [
-        | inl before ↦ omega (arith, placed 0 us refl j w (sym (at-front us (joined shards) j before) ∙ at))
-        | inr after ↦ omega (arith, later (omega (arith, after)))
-      ]
+    elim (cases_lt j (length us)) [
+      | inl before ↦ omega (arith, placed 0 us refl j w (sym (at-front us (joined shards) j before) ∙ at))
+      | inr past ↦ omega (arith, at-least shard (m + 1) shards (numbered-rest shard m us shards placed) (j - length us) w (sym (past-front us (joined shards) j past) ∙ at))
     ]
 
 -- if strings have the numbers of their lists and no list has a string twice, nor have all lists together
@@ -106,8 +66,6 @@ all-apart shard m (us ∷ shards) placed each i j w below one other =
 -- no two strings of all shards are equal, if no two of one shard are: equal strings would belong to one shard
 pub distinct-shards : (shards : List (List (List ℕ))) → AreShards shards → AreEachDistinct shards →
     AreAllDistinct shards
-distinct-shards shards placed each =
-    let numbered : Numbered (shard_of (length shards)) 0 shards =
-    λ s us at i w stands. omega (arith, placed s us at i w stands) in
-    distinct-from (joined shards)
-    (all-apart (shard_of (length shards)) 0 shards numbered (λ s us at. apart us (each s us at)))
+distinct-shards shards placed each = distinct-from (joined shards)
+    (all-apart (shard_of (length shards)) 0 shards
+    (λ s us at i w stands. omega (arith, placed s us at i w stands)) (λ s us at. apart us (each s us at)))

@@ -1,11 +1,13 @@
 -- What look-ups find, where each text is found at its position.
 use Rattle.std.proofs.lemmas.Grind.{common_steps}
 use Rattle.std.proofs.Common.{◌≡◌, ℕ, zero, suc, ◌+◌, ◌*◌, ◌%◌, ◌<◌, ◌==◌, Bool, true, false, cond, List, [], ◌∷◌, length, get_or, slice_get, Option, Some, None, map, refl, sym, ap, ◌∙◌, arith}
+use Rattle.std.proofs.lemmas.Option.{gets}
 use Rattle.std.specs.Str.{bytes_eq}
 use Rattle.std.specs.Cmp.Lexicographic.{bytes_decides}
 use Rattle.intaglio_content.specs.Key.{Key}
 use Rattle.intaglio_interner.specs.State.{first, AreDistinct}
 use Rattle.intaglio_interner.proofs.First.{first-none, first-some}
+use Rattle.intaglio_frozen.proofs.Apart.{distinct-from}
 use Rattle.intaglio_hash.specs.Numbers.{u32_at}
 use Rattle.intaglio_frozen.specs.Layout.{tags_at, strings}
 use Rattle.intaglio_frozen.specs.LookUp.{hash, place, if_same, find_at, find, FindsAll}
@@ -17,22 +19,12 @@ key w = w ∷ []
 -- if the key at a position is that of a text, the text is there
 key-at : (ts : List (List ℕ)) (j : ℕ) (d : Key) (w : List ℕ) → j < length (map key ts) →
     get_or (map key ts) j d ≡ key w → slice_get ts j ≡ Some w
-key-at [] j d w l e = absurd (omega arith)
-key-at (t ∷ ts) zero d w l e = cc
-key-at (t ∷ ts) (suc j) d w l e = key-at ts j d w (omega arith) e
+key-at ts j d w l e = grind (arith, common_steps, gets)
 
 -- where a text is, there is a key, and it is that text's
 pub at-key : (ts : List (List ℕ)) (j : ℕ) (d : Key) (w : List ℕ) → slice_get ts j ≡ Some w →
     (j < length (map key ts)) × (get_or (map key ts) j d ≡ key w)
-at-key [] j d w e = cc
-at-key (t ∷ ts) zero d w e = (omega arith, cc)
-at-key (t ∷ ts) (suc j) d w e = let h = at-key ts j d w e in (omega (arith, h.0), h.1)
-
--- each position below the length has a text
-some-at : (ts : List (List ℕ)) (j : ℕ) → j < length (map key ts) → (w : List ℕ) × (slice_get ts j ≡ Some w)
-some-at [] j l = absurd (omega arith)
-some-at (t ∷ ts) zero l = (t, refl)
-some-at (t ∷ ts) (suc j) l = some-at ts j (omega arith)
+at-key ts j d w e = grind (arith, common_steps, gets)
 
 -- if a result is a position of a text or none, and each position of the text is the result, it is the first
 by-result : (ts : List (List ℕ)) (w : List ℕ) (r : Option ℕ) →
@@ -54,8 +46,7 @@ tested false s i e = cc
 
 -- if a test leaves a result or none, and a symbol is left, the result was that symbol
 passed : (b : Bool) (o : Option ℕ) (i : ℕ) → cond b o None ≡ Some i → o ≡ Some i
-passed true o i e = e
-passed false o i e = cc
+passed b o i e = grind (arith, common_steps)
 
 -- if a comparison with the string of a symbol finds one, it is this symbol, and the string is the sought one
 same-sound : (o : Option (List ℕ)) (s i : ℕ) (w : List ℕ) → if_same o s w ≡ Some i → (o ≡ Some w) × (s ≡ i)
@@ -81,18 +72,10 @@ find-is-first bs w all = by-result (strings bs) w (find bs w) (λ s e. find-soun
 
 -- if each string is found at its position, no two strings have equal keys
 pub all-distinct : (bs : List ℕ) → FindsAll bs → AreDistinct (map key (strings bs))
-all-distinct bs all = λ i j d l k e.
-    let wi = some-at (strings bs) i (omega (arith, l, k)) in
-    let wj = some-at (strings bs) j k in
-    let ki = at-key (strings bs) i d wi.0 wi.1 in
-    let kj = at-key (strings bs) j d wj.0 wj.1 in
-    let fi = all i wi.0 wi.1 in
-    let fj = all j wj.0 wj.1 in
-    let same : key wi.0 ≡ key wj.0 = sym ki.1 ∙ e ∙ kj.1 in
-    let texts_same : wi.0 ≡ wj.0 = cc in
-    let found : Some i ≡ Some j = sym fi ∙ ap (find bs) texts_same ∙ fj in
-    let positions : i ≡ j = cc in
-    omega (arith, l, positions)
+all-distinct bs all = distinct-from (strings bs) (λ i j w below one other.
+    let found : Some i ≡ Some j = sym (all i w one) ∙ all j w other in
+    let same : i ≡ j = cc in
+    omega (arith, below, same))
 
 -- what is found, step by step
 pub find-by : (bs w : List ℕ) (h p : ℕ) → h ≡ hash bs w → p ≡ place bs h →
@@ -132,11 +115,8 @@ found-other bs w s i e other found = other (same-sound (slice_get (strings bs) s
 pub same-by-get : (xs ys : List (List ℕ)) (n : ℕ) → n ≡ length xs → n ≡ length ys →
     ((k : ℕ) → k < n → slice_get xs k ≡ slice_get ys k) → xs ≡ ys
 same-by-get [] [] n e f g = refl
-same-by-get [] (y ∷ ys) n e f g = absurd (omega arith)
-same-by-get (x ∷ xs) [] n e f g = absurd (omega arith)
-same-by-get (x ∷ xs) (y ∷ ys) zero e f g = absurd (omega arith)
 same-by-get (x ∷ xs) (y ∷ ys) (suc n) e f g =
     let first : Some x ≡ Some y = g 0 (omega arith) in
-    let head : x ≡ y = cc in
     let tail : xs ≡ ys = same-by-get xs ys n (omega arith) (omega arith) (λ k l. g (suc k) (omega arith)) in
     cc
+same-by-get xs ys n e f g = absurd (omega arith)

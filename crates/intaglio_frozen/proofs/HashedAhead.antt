@@ -1,21 +1,20 @@
 -- Numbers of strings, one beside each: what holds of those so far, and of one more.
 use Rattle.std.proofs.Common.{◌≡◌, ℕ, ◌+◌, ◌<◌, ◌≤◌, ◌⊎◌, inl, inr, List, [], ◌∷◌, ◌++◌, length, map, take, drop, refl, sym, ap, subst, ◌∙◌, append_assoc, length-drop, arith, Some}
+use Rattle.std.proofs.lemmas.Grind.{common_steps}
 use Rattle.std.specs.Prelude.{slice_get}
 use Rattle.std.proofs.Math.ListN.{get_or, set}
 use Rattle.std.proofs.lemmas.Bool.{cases_lt}
 use Rattle.std.proofs.lemmas.List.{take_all, take_more, take_more_set, take-append-drop, drop_more, drop_all, get_or-drop, map_push, get_or-set_same, length-set}
-use Rattle.std.proofs.lemmas.Option.{get_or_from_slice_get, slice_get-get_or, slice_get_within}
+use Rattle.std.proofs.lemmas.Option.{gets}
 use Rattle.intaglio_frozen.specs.Ahead.{AreFirst}
 
 -- the element at a position, and those before and behind it
 module _ {X : Type 0} (xs : List X) (i : ℕ) (x : X) (there : slice_get xs i ≡ Some x) where
   pub drop_there : drop i xs ≡ x ∷ drop (i + 1) xs
-  drop_there = drop_more xs i x (slice_get_within xs i x there)
-      ∙ ap (λ y. y ∷ drop (i + 1) xs) (get_or_from_slice_get xs i x x there)
+  drop_there = grind (arith, common_steps, gets)
 
   pub take_there : take (i + 1) xs ≡ take i xs ++ x ∷ []
-  take_there = take_more xs i x (slice_get_within xs i x there)
-      ∙ ap (λ y. take i xs ++ y ∷ []) (get_or_from_slice_get xs i x x there)
+  take_there = grind (arith, common_steps, gets)
 
 -- a loop that ends at the shorter of both
 pub stops : (n m i : ℕ) → (i < n → m ≤ i) → (n ≤ i) ⊎ (m ≤ i)
@@ -24,12 +23,7 @@ stops n m i short = elim (cases_lt i n) [ inl less ↦ inr (short less) | inr al
 -- a string among those from a position on
 pub behind : (strings : List (List ℕ)) (place i : ℕ) (string : List ℕ) →
     slice_get strings (place + i) ≡ Some string → slice_get (drop place strings) i ≡ Some string
-behind strings place i string there =
-    let within : i < length (drop place strings) =
-    omega (arith, slice_get_within strings (place + i) string there, length-drop place strings) in
-    slice_get-get_or (drop place strings) i string within
-    ∙ ap Some (get_or-drop place strings i string
-    ∙ get_or_from_slice_get strings (place + i) string string there)
+behind strings place i string there = grind (arith, common_steps, gets)
 
 module _ (P : List ℕ → ℕ → Type 0) where
   no_strings : (ns : List ℕ) → AreFirst P [] ns
@@ -40,29 +34,15 @@ module _ (P : List ℕ → ℕ → Type 0) where
   pub first : (strings : List (List ℕ)) (ns : List ℕ) (i used : ℕ) (string : List ℕ) →
       slice_get strings i ≡ Some string → used < length ns → AreFirst P (drop i strings) (drop used ns)
       → P string (get_or ns used 0) × AreFirst P (drop (i + 1) strings) (drop (used + 1) ns)
-  first strings ns i used string there left are =
-      subst (λ (rest : List ℕ). AreFirst P (string ∷ drop (i + 1) strings) rest) (drop_more ns used 0 left)
-      (subst (λ (ws : List (List ℕ)). AreFirst P ws (drop used ns)) (drop_there strings i string there) are)
+  first strings ns i used string there left are = rw (drop_there strings i string there, drop_more ns used 0 left) at are
 
   -- the number of one string, at the last place of a list
   pub alone : (strings : List (List ℕ)) (ns : List ℕ) (i last n : ℕ) (string : List ℕ) →
       slice_get strings i ≡ Some string → length ns ≡ last + 1 → P string n →
       AreFirst P (drop i strings) (drop last (set ns last n))
   alone strings ns i last n string there places is =
-      let within : last < length (set ns last n) = omega (arith, places, length-set ns last n) in
-      let none : drop (last + 1) (set ns last n) ≡ [] =
-      drop_all (last + 1) (set ns last n) (omega (arith, places, length-set ns last n)) in
-      let one : drop last (set ns last n) ≡ n ∷ [] =
-      rw (
-        drop_more (set ns last n) last 0 within,
-        get_or-set_same ns last n 0 (omega (arith, places)),
-        none,
-      ) refl in
-      subst (λ (rest : List ℕ). AreFirst P (drop i strings) rest) (sym one)
-      (subst (λ (ws : List (List ℕ)). AreFirst P ws (n ∷ [])) (sym (drop_there strings i string there)) (
-        is,
-        tt,
-      ))
+      let one : drop last (set ns last n) ≡ n ∷ [] = grind (arith, common_steps) in
+      rw (drop_there strings i string there, one) (is, tt)
 
   -- with the numbers of the strings that are left, those so far are those of all strings
   abbrev pub Continues : List (List ℕ) → List (List ℕ) → List ℕ → Type 0
@@ -72,26 +52,17 @@ module _ (P : List ℕ → ℕ → Type 0) where
       i < length ns → P string n
       → Continues all (drop i all) (take i ns) → Continues all (drop (i + 1) all) (take (i + 1) (set ns i n))
   more all ns i n string there inside is continues behind are =
-      subst (λ (zs : List ℕ). AreFirst P all zs)
-      (sym (ap (λ (zs : List ℕ). zs ++ behind) (take_more_set ns i n inside)
-      ∙ append_assoc (take i ns) (n ∷ []) behind))
-      (continues (n ∷ behind)
-      (subst (λ (ws : List (List ℕ)). AreFirst P ws (n ∷ behind)) (sym (drop_there all i string there))
-      (is, are)))
+      rw (take_more_set ns i n inside, append_assoc)
+      (continues (n ∷ behind) (rw (drop_there all i string there) (is, are)))
 
   at_end : (all : List (List ℕ)) (ns : List ℕ) (i : ℕ) → (length all ≤ i) ⊎ (length ns ≤ i) →
       AreFirst P (drop i all) (drop i ns)
-  at_end all ns i (inl end) =
-      subst (λ (ws : List (List ℕ)). AreFirst P ws (drop i ns)) (sym (drop_all i all end))
-      (no_strings (drop i ns))
-  at_end all ns i (inr end) =
-      subst (λ (rest : List ℕ). AreFirst P (drop i all) rest) (sym (drop_all i ns end)) tt
+  at_end all ns i (inl end) = rw (drop_all i all end) (no_strings (drop i ns))
+  at_end all ns i (inr end) = rw (drop_all i ns end) tt
 
   pub all_first : (all : List (List ℕ)) (ns : List ℕ) (i : ℕ) → (length all ≤ i) ⊎ (length ns ≤ i) →
       Continues all (drop i all) (take i ns) → AreFirst P all ns
-  all_first all ns i ends continues =
-      subst (λ (zs : List ℕ). AreFirst P all zs) (take-append-drop i ns)
-      (continues (drop i ns) (at_end all ns i ends))
+  all_first all ns i ends continues = rw take-append-drop at (continues (drop i ns) (at_end all ns i ends))
 
 -- the same of numbers that are fixed
 module _ (f : List ℕ → ℕ) (all : List (List ℕ)) (ns : List ℕ) (i : ℕ) where
