@@ -3,7 +3,7 @@ use Rattle.std.proofs.lemmas.Grind.{common_steps}
 use Rattle.std.proofs.Common.{zero, suc, get_or, ◌≡◌, ◌∙◌, ℕ, ◌+◌, ◌<◌, ◌≤◌, List, [], ◌∷◌, ◌++◌, length, map, take, slice_get, Option, Some, None, MatchOption, Result, Ok, refl, sym, ap, arith}
 use Rattle.std.proofs.lemmas.List.{length-map}
 use Rattle.std.proofs.lemmas.Grind.{take_at_read}
-use Rattle.std.proofs.lemmas.Option.{slice_get_within, get_or_from_slice_get, slice_get-get_or}
+use Rattle.std.proofs.lemmas.Option.{gets, slice_get_within, get_or_from_slice_get, slice_get-get_or}
 use Rattle.intaglio_interner.proofs.First.{some-below}
 use Rattle.intaglio_interner.specs.Change.{InternsForm, InternsNewForm}
 use Rattle.intaglio_interner.specs.Lookup.{IsStored, Keeps}
@@ -32,10 +32,7 @@ added old new w s step past = grind (arith, common_steps, by-found, key, some-be
 
 -- at a position below i, the first i strings have what all strings have there
 slice_get-take : (ws : List (List ℕ)) (i k : ℕ) → k < i → slice_get (take i ws) k ≡ slice_get ws k
-slice_get-take ws zero k l = absurd (omega (arith, l))
-slice_get-take [] (suc i) k l = refl
-slice_get-take (w ∷ ws) (suc i) zero l = refl
-slice_get-take (w ∷ ws) (suc i) (suc k) l = slice_get-take ws i k (omega (arith, l))
+slice_get-take ws i k l = grind (arith, common_steps, gets)
 
 -- a string whose symbol is one of those before is equal to the string there
 pub again : (ws : List (List ℕ)) (old new : State (List ℕ)) (i s : ℕ) (w : List ℕ) →

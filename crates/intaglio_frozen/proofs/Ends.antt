@@ -3,9 +3,9 @@ use Rattle.std.proofs.Common.{◌≡◌, ℕ, ◌<◌, ◌≤◌, suc, zero, Lis
 use Rattle.intaglio_frozen.specs.Strings.{strings_from, AreEnds}
 
 -- where the first string begins is within the bytes
-pub ends-within : (at all : ℕ) (es : List ℕ) → AreEnds at all es → at ≤ all
-ends-within at all [] h = omega (arith, h)
-ends-within at all (e ∷ es) h = omega (arith, h.0, ends-within e all es h.1)
+pub ends_within : (at all : ℕ) (es : List ℕ) → AreEnds at all es → at ≤ all
+ends_within at all [] h = omega (arith, h)
+ends_within at all (e ∷ es) h = omega (arith, h.0, ends_within e all es h.1)
 
 -- there are as many strings as ends
 pub from-length : (at : ℕ) (bytes es : List ℕ) → length (strings_from at bytes es) ≡ length es
@@ -16,7 +16,7 @@ from-length at bytes (e ∷ es) = ap suc (from-length e bytes es)
 pub ends-at : (at all : ℕ) (es : List ℕ) (i : ℕ) → AreEnds at all es → i < length es →
     (get_or (at ∷ es) i 0 ≤ get_or es i 0) × (get_or es i 0 ≤ all)
 ends-at at all [] i h l = absurd (omega arith)
-ends-at at all (e ∷ es) zero h l = (h.0, ends-within e all es h.1)
+ends-at at all (e ∷ es) zero h l = (h.0, ends_within e all es h.1)
 ends-at at all (e ∷ es) (suc i) h l = ends-at e all es i h.1 (omega arith)
 
 -- the string at i lies between the end before it, or the beginning if i is 0, and its own end

@@ -62,5 +62,5 @@ module _ (p : List ℕ → Bool) where
       ∙ ap (interned_all string_key []) (filter-joined lists)
 
 -- a shard of a union is the union of that shard of each list
-pub shards-merge : ShardsMerge
-shards-merge count s lists = filter-union (λ w. shard_of count w == s) lists
+pub shards_merge : ShardsMerge
+shards_merge count s lists = filter-union (λ w. shard_of count w == s) lists

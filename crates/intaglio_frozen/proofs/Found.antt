@@ -112,11 +112,11 @@ pub found-other : (bs w : List ℕ) (s i : ℕ) → find bs w ≡ if_same (slice
 found-other bs w s i e other found = other (same-sound (slice_get (strings bs) s) s i w (sym e ∙ found)).1
 
 -- two lists with the same text at each position
-pub same-by-get : (xs ys : List (List ℕ)) (n : ℕ) → n ≡ length xs → n ≡ length ys →
+pub same_by_get : (xs ys : List (List ℕ)) (n : ℕ) → n ≡ length xs → n ≡ length ys →
     ((k : ℕ) → k < n → slice_get xs k ≡ slice_get ys k) → xs ≡ ys
-same-by-get [] [] n e f g = refl
-same-by-get (x ∷ xs) (y ∷ ys) (suc n) e f g =
+same_by_get [] [] n e f g = refl
+same_by_get (x ∷ xs) (y ∷ ys) (suc n) e f g =
     let first : Some x ≡ Some y = g 0 (omega arith) in
-    let tail : xs ≡ ys = same-by-get xs ys n (omega arith) (omega arith) (λ k l. g (suc k) (omega arith)) in
+    let tail : xs ≡ ys = same_by_get xs ys n (omega arith) (omega arith) (λ k l. g (suc k) (omega arith)) in
     cc
-same-by-get xs ys n e f g = absurd (omega arith)
+same_by_get xs ys n e f g = absurd (omega arith)

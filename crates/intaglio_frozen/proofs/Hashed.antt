@@ -1,5 +1,6 @@
 -- What strings write to a hasher, one after the other.
-use Rattle.std.proofs.Common.{◌≡◌, ◌∙◌, ℕ, ◌+◌, ◌<◌, ◌≤◌, List, [], ◌∷◌, ◌++◌, length, drop, get_or, slice_get, Some, refl, sym, ap}
+use Rattle.std.proofs.lemmas.Grind.{common_steps}
+use Rattle.std.proofs.Common.{◌≡◌, ◌∙◌, ℕ, ◌+◌, ◌<◌, ◌≤◌, List, [], ◌∷◌, ◌++◌, length, drop, get_or, slice_get, Some, refl, sym, ap, arith}
 use Rattle.std.specs.List.{concat, flat_map}
 use Rattle.std.specs.Int.{w32, to_le_bytes}
 use Rattle.std.specs.Hash.DefaultHasher.{write, write_byte}
@@ -34,37 +35,31 @@ next-item f h now i d xs l written =
     ∙ ap (λ t. write h (flat_map f t)) (sym (drop_more xs i d l))
 
 -- if no items are left, their bytes leave a hasher as it is
-pub last-item : {X : Type 0} (f : X → List ℕ) (h : DefaultHasher) (i : ℕ) (xs : List X) → length xs ≤ i →
+pub last_item : {X : Type 0} (f : X → List ℕ) (h : DefaultHasher) (i : ℕ) (xs : List X) → length xs ≤ i →
     h ≡ write h (flat_map f (drop i xs))
-last-item f h i xs l = sym (write-none h) ∙ ap (λ t. write h (flat_map f t)) (sym (drop_all i xs l))
+last_item f h i xs l = grind (arith, common_steps, write-none)
 
 -- the end of one more string
-pub next-end : (h now : DefaultHasher) (end next i : ℕ) (w : List ℕ) (ws : List (List ℕ)) →
+pub next_end : (h now : DefaultHasher) (end next i : ℕ) (w : List ℕ) (ws : List (List ℕ)) →
     slice_get ws i ≡ Some w → next ≡ end_behind end w
     → now ≡ write h (to_le_bytes w32 next) → write now (end_bytes next (drop (i + 1) ws))
     ≡ write h (end_bytes end (drop i ws))
-next-end h now end next i w ws at is written =
-    let left = drop (i + 1) ws in
-    let rest = end_bytes next left in
-    let whole : end_bytes end (drop i ws) ≡ to_le_bytes w32 next ++ rest =
-    ap (end_bytes end) (drop_there ws i w at) ∙ ap (λ e. to_le_bytes w32 e ++ end_bytes e left) (sym is) in
-    written-behind h now (to_le_bytes w32 next) rest written ∙ ap (write h) (sym whole)
+next_end h now end next i w ws at is written =
+    rw (drop_there ws i w at, ← is) (written-behind h now (to_le_bytes w32 next) (end_bytes next (drop (i + 1) ws)) written)
 
 -- if no strings are left, their ends leave a hasher as it is
-pub last-end : (h : DefaultHasher) (end i : ℕ) (ws : List (List ℕ)) → length ws ≤ i →
+pub last_end : (h : DefaultHasher) (end i : ℕ) (ws : List (List ℕ)) → length ws ≤ i →
     h ≡ write h (end_bytes end (drop i ws))
-last-end h end i ws l = sym (write-none h) ∙ ap (λ t. write h (end_bytes end t)) (sym (drop_all i ws l))
+last_end h end i ws l = grind (arith, common_steps, write-none)
 
 -- the bytes of one more string
-pub next-text : (h now : DefaultHasher) (i : ℕ) (w : List ℕ) (ws : List (List ℕ)) → slice_get ws i ≡ Some w →
+pub next_text : (h now : DefaultHasher) (i : ℕ) (w : List ℕ) (ws : List (List ℕ)) → slice_get ws i ≡ Some w →
     now ≡ write h w
     → write now (concat (drop (i + 1) ws)) ≡ write h (concat (drop i ws))
-next-text h now i w ws at written =
-    let rest = concat (drop (i + 1) ws) in
-    written-behind h now w rest written
-    ∙ ap (λ t. write h (concat t)) (sym (drop_there ws i w at))
+next_text h now i w ws at written =
+    rw (drop_there ws i w at) (written-behind h now w (concat (drop (i + 1) ws)) written)
 
 -- if no strings are left, their bytes leave a hasher as it is
-pub last-text : (h : DefaultHasher) (i : ℕ) (ws : List (List ℕ)) → length ws ≤ i →
+pub last_text : (h : DefaultHasher) (i : ℕ) (ws : List (List ℕ)) → length ws ≤ i →
     h ≡ write h (concat (drop i ws))
-last-text h i ws l = sym (write-none h) ∙ ap (λ t. write h (concat t)) (sym (drop_all i ws l))
+last_text h i ws l = grind (arith, common_steps, write-none)

@@ -14,11 +14,11 @@ abbrev pub is_in : List ℕ → ℕ → ℕ → Bool
 is_in hs g h = scaled (groups_for (length hs)) h == g
 
 -- one more string of a group is counted
-pub counted-more : (hs sizes : List ℕ) (i at x g : ℕ) → i < length hs → at ≡ group_at hs i →
+pub counted_more : (hs sizes : List ℕ) (i at x g : ℕ) → i < length hs → at ≡ group_at hs i →
     at < length sizes → x ≡ get_or sizes at 0 + 1 →
     get_or sizes g 0 ≡ count_by (is_in hs g) (take i hs) →
     get_or (set sizes at x) g 0 ≡ count_by (is_in hs g) (take (i + 1) hs)
-counted-more hs sizes i at x g l is within more so_far = grind (arith, common_steps)
+counted_more hs sizes i at x g l is within more so_far = grind (arith, common_steps)
 
 module _ (hs : List ℕ) (pilots : ℕ → ℕ) (g : ℕ) where
   -- one more place of a group before is marked
@@ -34,8 +34,7 @@ module _ (hs : List ℕ) (pilots : ℕ → ℕ) (g : ℕ) where
           absurd (d (ap (λ x. get_or (set marks at taken_mark) x 0) same
           ∙ get_or-set_same marks at taken_mark 0 l))
       | inr other ↦
-          (let read = get_or-set_other marks at p taken_mark 0 other in
-          omega (arith, read, old.others p (λ e. d (read ∙ e))))
+          grind (arith, get_or-set_other marks at p taken_mark 0 other, old.others p)
     ];
   }
 

@@ -10,7 +10,7 @@ use Rattle.std.proofs.lemmas.Option.{slice_get_within}
 use Rattle.intaglio_interner.proofs.Held.{slice_get-front}
 use Rattle.intaglio_frozen.specs.Merging.{IsMap}
 use Rattle.intaglio_frozen.specs.Shards.{AreNumbered, first_shards, joined, shard, shard_of}
-use Rattle.intaglio_frozen.proofs.Sharded.{at-back, next-in, next-out, pushed-length}
+use Rattle.intaglio_frozen.proofs.Sharded.{at-back, next_in, next_out, pushed-length}
 
 -- how many strings the first shards have, with a string that the shard s has or hasn't in front of others
 one-more : (count : ℕ) (w : List ℕ) (ws : List (List ℕ)) (s a b : ℕ) →
@@ -59,11 +59,11 @@ module _ (count : ℕ) (strings : List (List ℕ)) (shards : List ℕ) (are : sh
   module _ (i : ℕ) (w : List ℕ) (at : slice_get strings i ≡ Some w) where
     pub far-in : get_or shards i 0 ≡ number →
         so_far count strings number (i + 1) ≡ so_far count strings number i ++ w ∷ []
-    far-in is = grind (arith, common_steps, next-in count strings shards are i number w at is)
+    far-in is = grind (arith, common_steps, next_in count strings shards are i number w at is)
 
     pub far-out : (get_or shards i 0 ≡ number → ⊥) →
         so_far count strings number (i + 1) ≡ so_far count strings number i
-    far-out not = rw (next-out count strings shards are i number w at not) refl
+    far-out not = rw (next_out count strings shards are i number w at not) refl
 
     earlier : (j : ℕ) → (get_or shards j 0 < number) ⊎ ((get_or shards j 0 ≡ number) × (j < i + 1)) →
         (get_or shards j 0 ≡ number → j ≡ i → ⊥)
@@ -95,24 +95,24 @@ module _ (count : ℕ) (strings : List (List ℕ)) (shards : List ℕ) (are : sh
         rw (far-out isnt) (have j v stands (earlier j which not))
 
   -- at first
-  pub first-places : (numbers : List ℕ) →
+  pub first_places : (numbers : List ℕ) →
       AreNumbered strings shards (joined (first_shards count strings number)) number numbers →
       HavePlaces count strings shards number 0 numbers
-  first-places numbers before j v stands which = grind (arith, common_steps, before j v stands)
+  first_places numbers before j v stands which = grind (arith, common_steps, before j v stands)
 
   all-far : (i : ℕ) → i ≡ length strings →
       so_far count strings number i ≡ joined (first_shards count strings (number + 1))
   all-far i all = grind (arith, common_steps)
 
-  pub far-length : (i : ℕ) → i ≡ length strings →
+  pub far_length : (i : ℕ) → i ≡ length strings →
       length (so_far count strings number i) ≡ length (joined (first_shards count strings (number + 1)))
-  far-length i all = ap length (all-far i all)
+  far_length i all = ap length (all-far i all)
 
   -- in the end
-  pub last-places : (numbers : List ℕ) (i : ℕ) → i ≡ length strings →
+  pub last_places : (numbers : List ℕ) (i : ℕ) → i ≡ length strings →
       HavePlaces count strings shards number i numbers →
       AreNumbered strings shards (joined (first_shards count strings (number + 1))) (number + 1) numbers
-  last-places numbers i all have j v stands below =
+  last_places numbers i all have j v stands below =
       let within : j < i = omega (arith, all, slice_get_within strings j v stands) in
       let which : (get_or shards j 0 < number) ⊎ ((get_or shards j 0 ≡ number) × (j < i)) = grind arith in
       rw (← all-far i all) (have j v stands which)

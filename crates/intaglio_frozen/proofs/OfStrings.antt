@@ -7,7 +7,7 @@ use Rattle.std.proofs.lemmas.List.{drop_all, drop-drop, get_or-drop}
 use Rattle.std.proofs.lemmas.List.Edits.{length-between}
 use Rattle.std.proofs.lemmas.List.Folds.{drop_split}
 use Rattle.std.proofs.Math.Seq.{take-add}
-use Rattle.intaglio_frozen.proofs.Ends.{ends-within}
+use Rattle.intaglio_frozen.proofs.Ends.{ends_within}
 use Rattle.intaglio_frozen.proofs.Places.{strings_length, u32-in}
 use Rattle.intaglio_frozen.specs.Strings.{strings_from, AreEnds}
 use Rattle.intaglio_hash.specs.Numbers.{u32_at}
@@ -36,22 +36,13 @@ digits_back a b c d la lb lc ld = grind (arith, common_steps)
 -- the number of the first four of some bytes, written as four bytes, is these four
 four_back : (xs : List ℕ) → AreBytes xs → 4 ≤ length xs → to_le_bytes w32 (u32_at xs 0) ≡ take 4 xs
 unfolding u32_at
-four_back [] f l = absurd (omega (arith, l))
-four_back (a ∷ []) f l = absurd (omega (arith, l))
-four_back (a ∷ b ∷ []) f l = absurd (omega (arith, l))
-four_back (a ∷ b ∷ c ∷ []) f l = absurd (omega (arith, l))
 four_back (a ∷ b ∷ c ∷ d ∷ xs) f l = digits_back a b c d (f 0) (f 1) (f 2) (f 3)
-
--- the number that four bytes make is below 2 ^ 32
-four_below : (a b c d : ℕ) → a < 256 → b < 256 → c < 256 → d < 256 →
-    a + 256 * (b + 256 * (c + 256 * (d + 256 * 0))) < 2 ^ 32
-four_below a b c d la lb lc ld = omega (arith, la, lb, lc, ld)
+four_back xs f l = absurd (omega (arith, l))
 
 -- the 32-bit number at any position of bytes is below 2 ^ 32
 pub u32_below : (xs : List ℕ) (at : ℕ) → AreBytes xs → u32_at xs at < 2 ^ 32
 unfolding u32_at
-u32_below xs at f = four_below (get_or xs (at + 0) 0) (get_or xs (at + 1) 0) (get_or xs (at + 2) 0)
-    (get_or xs (at + 3) 0) (f (at + 0)) (f (at + 1)) (f (at + 2)) (f (at + 3))
+u32_below xs at f = omega (arith, f (at + 0), f (at + 1), f (at + 2), f (at + 3))
 
 -- if each item of a list is a byte, so is each that is left without the first ones
 drop_bytes : (xs : List ℕ) (at : ℕ) → AreBytes xs → AreBytes (drop at xs)
@@ -75,22 +66,12 @@ ends_from bs xs at n p (suc k) f h l w =
     let string = slice_range xs at e in
     let others = strings_from e xs (numbers_at bs (p + 4) k) in
     let size : length string ≡ e - at =
-    length-between xs at e (omega (arith, ends-within e n (numbers_at bs (p + 4) k) h.1, l)) in
+    length-between xs at e (omega (arith, ends_within e n (numbers_at bs (p + 4) k) h.1, l)) in
     let same : end_behind at string ≡ e = omega (arith, size, h.0, u32_below bs p f) in
     let here = end_back bs p f (omega (arith, w)) in
     let rest = ends_from bs xs e n (p + 4) k f h.1 l (omega (arith, w)) in
-    let behind : drop 4 (drop p bs) ≡ drop (p + 4) bs = drop-drop 4 p bs in
-    let cut : take (4 + 4 * k) (drop p bs) ≡ take 4 (drop p bs) ++ take (4 * k) (drop (p + 4) bs) =
-    take-add 4 (4 * k) (drop p bs) ∙ ap (λ t. take 4 (drop p bs) ++ take (4 * k) t) behind in
-    let many : 4 + 4 * k ≡ 4 * suc k = omega arith in
-    ap (λ x. to_le_bytes w32 x ++ end_bytes x others) same ∙ ap (λ t. t ++ end_bytes e others) here
-    ∙ ap (λ t. take 4 (drop p bs) ++ t) rest ∙ sym cut
-    ∙ ap (λ m. take m (drop p bs)) many
-
--- what identifies a dictionary identifies one with an equal count, equal ends and an equal text
-same_parts : (is_text : Bool) (n m : ℕ) (es fs xs ys : List ℕ) (id : DictionaryId) → n ≡ m → es ≡ fs →
-    xs ≡ ys → IsIdOf is_text n es xs id → IsIdOf is_text m fs ys id
-same_parts is_text n m es fs xs ys id en ee ex h = grind (arith, common_steps)
+    let many : 4 * suc k ≡ 4 + 4 * k = omega arith in
+    rw (many, take-add 4 (4 * k) (drop p bs), drop-drop 4 p bs, same, ← here, ← rest) refl
 
 module _ (bs : List ℕ) (f : AreBytes bs) (b : IsBlock bs) where
   pub text_is : text_section bs ≡ concat (strings bs)
@@ -110,17 +91,11 @@ module _ (bs : List ℕ) (f : AreBytes bs) (b : IsBlock bs) where
 
   pub to_strings : (is_text : Bool) (id : DictionaryId) →
       IsIdOf is_text (count bs) (ends_section bs) (text_section bs) id → IsIdOfStrings is_text (strings bs) id
-  to_strings is_text id h =
-      let ws = strings bs in
-      same_parts is_text (count bs) (length ws) (ends_section bs) (end_bytes 0 ws) (text_section bs)
-      (concat ws) id (sym (strings_length bs)) ends_are text_is h
+  to_strings is_text id h = rw (strings_length bs, ← ends_are, ← text_is) h
 
   pub of_strings : (is_text : Bool) (id : DictionaryId) → IsIdOfStrings is_text (strings bs) id →
       IsIdOf is_text (count bs) (ends_section bs) (text_section bs) id
-  of_strings is_text id h =
-      let ws = strings bs in
-      same_parts is_text (length ws) (count bs) (end_bytes 0 ws) (ends_section bs) (concat ws)
-      (text_section bs) id (strings_length bs) (sym ends_are) (sym text_is) h
+  of_strings is_text id h = rw (strings_length bs, ← ends_are, ← text_is) at h
 
   -- if the header has the hashes of what the strings are, it says what they are
   pub of_header : (id : DictionaryId) → IsIdOfStrings (is_text_number (kind bs)) (strings bs) id →

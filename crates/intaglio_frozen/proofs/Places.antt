@@ -12,9 +12,9 @@ use Rattle.intaglio_frozen.specs.Layout.{numbers_at, count, ends_at, text_at, en
 use Rattle.intaglio_frozen.specs.IsFrozen.{IsBlock}
 
 -- n numbers that are read from bytes are a list of length n
-pub numbers-length : (bs : List ℕ) (at n : ℕ) → length (numbers_at bs at n) ≡ n
-numbers-length bs at zero = refl
-numbers-length bs at (suc n) = ap suc (numbers-length bs (at + 4) n)
+pub numbers_length : (bs : List ℕ) (at n : ℕ) → length (numbers_at bs at n) ≡ n
+numbers_length bs at zero = refl
+numbers_length bs at (suc n) = ap suc (numbers_length bs (at + 4) n)
 
 -- the i-th of n numbers of four bytes is 4 * i bytes behind the first
 pub numbers-get : (bs : List ℕ) (at n i : ℕ) → i < n →
@@ -26,16 +26,12 @@ numbers-get bs at (suc n) (suc i) l = numbers-get bs (at + 4) n i (omega arith) 
 -- there are as many strings as the header says
 pub strings_length : (bs : List ℕ) → length (strings bs) ≡ count bs
 unfolding strings
-strings_length bs = from-length 0 (drop (text_at bs) bs) (ends bs) ∙ numbers-length bs (ends_at bs) (count bs)
+strings_length bs = from-length 0 (drop (text_at bs) bs) (ends bs) ∙ numbers_length bs (ends_at bs) (count bs)
 
 -- a number in the bytes from a position on
 number-in : (bs : List ℕ) (a k j n : ℕ) → number (drop a bs) k j n ≡ number bs (a + k) j n
 number-in bs a k j zero = refl
-number-in bs a k j (suc n) =
-    let byte : get_or (drop a bs) (k + j) 0 ≡ get_or bs (a + k + j) 0 =
-    get_or-drop a bs (k + j) 0 ∙ ap (λ p. get_or bs p 0) (omega arith) in
-    let rest = number-in bs a k (suc j) n in
-    cc
+number-in bs a k j (suc n) = grind (arith, common_steps, number-in bs a k (suc j) n)
 
 -- the number of four bytes at k in the bytes from a on is the one at a + k in all bytes
 pub u32-in : (bs : List ℕ) (a k at : ℕ) → at ≡ a + k → u32_at (drop a bs) k ≡ u32_at bs at
@@ -43,8 +39,8 @@ unfolding u32_at
 u32-in bs a k at e = number-in bs a k 0 4 ∙ ap (λ p. number bs p 0 4) (sym e)
 
 -- where a text ends
-pub end-is : (bs : List ℕ) (i : ℕ) → i < count bs → get_or (ends bs) i 0 ≡ u32_at bs (ends_at bs + 4 * i)
-end-is bs i l = numbers-get bs (ends_at bs) (count bs) i l
+pub end_is : (bs : List ℕ) (i : ℕ) → i < count bs → get_or (ends bs) i 0 ≡ u32_at bs (ends_at bs + 4 * i)
+end_is bs i l = numbers-get bs (ends_at bs) (count bs) i l
 
 -- where it begins
 pub start-is-end : (bs : List ℕ) (i : ℕ) → 0 < i → get_or (0 ∷ ends bs) i 0 ≡ get_or (ends bs) (i - 1) 0
@@ -52,52 +48,49 @@ start-is-end bs zero p = absurd (omega arith)
 start-is-end bs (suc i) p = ap (λ k. get_or (ends bs) k 0) (omega arith)
 
 -- the string at i is the part of the text from the end before it, or from 0, to its own end
-pub strings-get : (bs : List ℕ) (i : ℕ) → i < count bs →
+pub strings_get : (bs : List ℕ) (i : ℕ) → i < count bs →
     slice_get (strings bs) i
     ≡ Some (slice_range (drop (text_at bs) bs) (get_or (0 ∷ ends bs) i 0) (get_or (ends bs) i 0))
 unfolding strings
-strings-get bs i l =
-    strings-at 0 (drop (text_at bs) bs) (ends bs) i (omega (arith, numbers-length bs (ends_at bs) (count bs)))
+strings_get bs i l =
+    strings-at 0 (drop (text_at bs) bs) (ends bs) i (omega (arith, numbers_length bs (ends_at bs) (count bs)))
 
 -- a string, by where it begins and ends
-pub string-in : (bs t : List ℕ) (i start end : ℕ) → i < count bs → start ≡ get_or (0 ∷ ends bs) i 0 →
+pub string_in : (bs t : List ℕ) (i start end : ℕ) → i < count bs → start ≡ get_or (0 ∷ ends bs) i 0 →
     end ≡ get_or (ends bs) i 0 →
     t ≡ slice_range (drop (text_at bs) bs) start end → slice_get (strings bs) i ≡ Some t
-string-in bs t i start end l es ee et = rw (et, es, ee) (strings-get bs i l)
+string_in bs t i start end l es ee et = rw (et, es, ee) (strings_get bs i l)
 
 -- if the strings fill the text, none begins behind its end, and each end is within the text
-pub ends-order : (bs : List ℕ) (i : ℕ) → IsBlock bs → i < count bs →
+pub ends_order : (bs : List ℕ) (i : ℕ) → IsBlock bs → i < count bs →
     (get_or (0 ∷ ends bs) i 0 ≤ get_or (ends bs) i 0) × (get_or (ends bs) i 0 ≤ length (drop (text_at bs) bs))
-ends-order bs i b l =
-    let at =
-    ends-at 0 (length bs - text_at bs) (ends bs) i b.ends
-    (omega (arith, numbers-length bs (ends_at bs) (count bs))) in
-    (at.0, omega (arith, at.1, length-drop (text_at bs) bs))
+ends_order bs i b l =
+    grind (arith, common_steps, ends-at 0 (length bs - text_at bs) (ends bs) i b.ends, numbers_length bs (ends_at bs) (count bs))
 
 -- what lies between the ends of a string
-pub part-found : (bs : List ℕ) (i start end : ℕ) (r : Option (Bor (List ℕ))) → i < count bs →
+pub part_found : (bs : List ℕ) (i start end : ℕ) (r : Option (Bor (List ℕ))) → i < count bs →
     start ≡ get_or (0 ∷ ends bs) i 0 → end ≡ get_or (ends bs) i 0 →
     IsGetRangeResult (drop (text_at bs) bs) start end r →
     IfSome r (λ s. slice_get (strings bs) i ≡ Some s.now)
-part-found bs i start end None l es ee p = tt
-part-found bs i start end (Some s) l es ee p = string-in bs s.now i start end l es ee p.0.2
+part_found bs i start end None l es ee p = tt
+part_found bs i start end (Some s) l es ee p = string_in bs s.now i start end l es ee p.0.2
 
 -- if the strings fill the text, its range from where a string begins to where it ends is that string
 pub part_whole : (bs : List ℕ) (i start end : ℕ) (r : Option (Bor (List ℕ))) → IsBlock bs → i < count bs →
     start ≡ get_or (0 ∷ ends bs) i 0 → end ≡ get_or (ends bs) i 0 →
     IsGetRangeResult (drop (text_at bs) bs) start end r → option_copied r ≡ slice_get (strings bs) i
 part_whole bs i start end None block l es ee p =
-    let order = ends-order bs i block l in
+    let order = ends_order bs i block l in
     let some : IsSome {T = Bor (List ℕ)} None = p.1 (rw (es, ee) order.0, rw ee order.1) in
     cc
-part_whole bs i start end (Some s) block l es ee p = sym (string-in bs s.now i start end l es ee p.0.2)
+part_whole bs i start end (Some s) block l es ee p = sym (string_in bs s.now i start end l es ee p.0.2)
 
 -- a product is less if one factor is less and the other isn't 0
 product : (a n m : ℕ) → 0 < n → a < m → a * n < n * m
 product a n m p l = omega (arith, row_fits a n m n l (omega arith), mul_comm n m)
 
 -- of n numbers of four bytes, those from the i-th on are the i-th and those behind it
-pub numbers-step : (bs : List ℕ) (at n i : ℕ) → i < n →
+pub numbers_step : (bs : List ℕ) (at n i : ℕ) → i < n →
     numbers_at bs (at + 4 * i) (n - i) ≡ u32_at bs (at + 4 * i) ∷ numbers_at bs (at + 4 * (i + 1))
     (n - (i + 1))
-numbers-step bs at n i l = grind (arith, common_steps)
+numbers_step bs at n i l = grind (arith, common_steps)

@@ -11,10 +11,10 @@ use Rattle.intaglio_frozen.specs.Shards.{AreShards, joined, shard, shard_of, sta
 use Rattle.intaglio_frozen.proofs.HashedAhead.{drop_there, take_there}
 
 -- the numbers of the first strings, when a shard comes behind the others
-pub starts-push : (n : ℕ) (shards : List (List (List ℕ))) (ws : List (List ℕ)) →
+pub starts_push : (n : ℕ) (shards : List (List (List ℕ))) (ws : List (List ℕ)) →
     starts_from n (shards ++ ws ∷ []) ≡ starts_from n shards ++ (n + length (joined shards)) ∷ []
-starts-push n [] ws = ap (λ t. t ∷ []) (omega arith)
-starts-push n (us ∷ shards) ws = grind (arith, common_steps, starts-push (n + length us) shards ws)
+starts_push n [] ws = ap (λ t. t ∷ []) (omega arith)
+starts_push n (us ∷ shards) ws = grind (arith, common_steps, starts_push (n + length us) shards ws)
 
 -- the number of the first string of a shard
 pub start-at : (n : ℕ) (shards : List (List (List ℕ))) (s : ℕ) (ws : List (List ℕ)) →
@@ -90,27 +90,27 @@ pub pushed-length : (xs : List (List (List ℕ))) (ws : List (List ℕ)) →
 pushed-length xs ws = grind (arith, common_steps)
 
 -- the shards up to one have its strings and those of the shards before it
-pub joined-next : (shards : List (List (List ℕ))) (s : ℕ) (ws : List (List ℕ)) →
+pub joined_next : (shards : List (List (List ℕ))) (s : ℕ) (ws : List (List ℕ)) →
     slice_get shards s ≡ Some ws → length (joined (take (s + 1) shards)) ≡ length (joined (take s shards))
     + length ws
-joined-next shards s ws at = rw (take_there shards s ws at) (pushed-length (take s shards) ws)
+joined_next shards s ws at = rw (take_there shards s ws at) (pushed-length (take s shards) ws)
 
 -- which are no more than all
-pub joined-front : (shards : List (List (List ℕ))) (s : ℕ) →
+pub joined_front : (shards : List (List (List ℕ))) (s : ℕ) →
     length (joined (take s shards)) ≤ length (joined shards)
-joined-front shards s =
+joined_front shards s =
     let parts = flat_map-append (λ ws. ws) (take s shards) (drop s shards) in
     omega (arith, length-append (joined (take s shards)) (joined (drop s shards)), ap length (rw take-append-drop at parts))
 
 -- as many begin as there are
-pub starts-length : (n : ℕ) (shards : List (List (List ℕ))) → length (starts_from n shards) ≡ length shards
-starts-length n [] = refl
-starts-length n (us ∷ shards) = ap suc (starts-length (n + length us) shards)
+pub starts_length : (n : ℕ) (shards : List (List (List ℕ))) → length (starts_from n shards) ≡ length shards
+starts_length n [] = refl
+starts_length n (us ∷ shards) = ap suc (starts_length (n + length us) shards)
 
 -- the shards before one and that one, when it is read at its number
-pub shard-read : (shards : List (List (List ℕ))) (s : ℕ) (ws : List (List ℕ)) → s < length shards →
+pub shard_read : (shards : List (List (List ℕ))) (s : ℕ) (ws : List (List ℕ)) → s < length shards →
     ws ≡ get_or shards s ws → slice_get shards s ≡ Some ws
-shard-read shards s ws below read = slice_get_read shards (length shards) s ws refl below read
+shard_read shards s ws below read = slice_get_read shards (length shards) s ws refl below read
 
 -- the start that is read at the number of a shard
 pub start-read : (starts : List ℕ) (shards : List (List (List ℕ))) (s n : ℕ) (ws : List (List ℕ)) →
@@ -133,23 +133,23 @@ module _ (shards : List (List (List ℕ))) (starts : List ℕ) (from : starts �
       found-in (shard_of (length shards)) w 0 shards s ws (λ t us there i v stands.
       omega (arith, placed t us there i v stands)) (rw (← all) (omega arith)) at
 
-  pub found-none : None ≡ first string_key ws (string_key w) →
+  pub found_none : None ≡ first string_key ws (string_key w) →
       None ≡ first string_key (joined shards) (string_key w)
-  found-none e = ap (option_map (λ i. length (joined (take s shards)) + i)) e ∙ sym found
+  found_none e = ap (option_map (λ i. length (joined (take s shards)) + i)) e ∙ sym found
 
   module _ (n i : ℕ) (begins : n ≡ get_or starts s n) (e : Some i ≡ first string_key ws (string_key w)) where
     pub found-some : Some (n + i) ≡ first string_key (joined shards) (string_key w)
     found-some = rw (found, ← e, start-read starts shards s n ws from at begins) refl
 
-    pub found-below : n + i < length (joined shards)
-    found-below =
+    pub found_below : n + i < length (joined shards)
+    found_below =
         omega (
           arith,
           start-read starts shards s n ws from at begins,
           some-below (map string_key ws) (string_key w) i (sym e),
           length-map ws string_key,
-          joined-next shards s ws at,
-          joined-front shards (s + 1),
+          joined_next shards s ws at,
+          joined_front shards (s + 1),
         )
 
 -- the string of a number that is within a shard, or behind it
@@ -165,7 +165,7 @@ module _ (shards : List (List (List ℕ))) (s : ℕ) (ws : List (List ℕ))
 -- the last shard and those before it are all
 pub all-taken : (shards : List (List (List ℕ))) (s : ℕ) (ws : List (List ℕ)) → slice_get shards s ≡ Some ws →
     length shards ≡ s + 1 → length (joined shards) ≡ length (joined (take s shards)) + length ws
-all-taken shards s ws at last = grind (arith, common_steps, joined-next shards s ws at)
+all-taken shards s ws at last = grind (arith, common_steps, joined_next shards s ws at)
 
 -- the next string, if it belongs to the shard and if it doesn't
 module _ (count : ℕ) (strings : List (List ℕ)) (shards : List ℕ) (are : shards ≡ map (shard_of count) strings)
@@ -174,10 +174,10 @@ module _ (count : ℕ) (strings : List (List ℕ)) (shards : List ℕ) (are : sh
   shard-read-at =
       rw (are, get_or-map (shard_of count) strings i w 0 (slice_get_within strings i w at), get_or_from_slice_get strings i w w at) refl
 
-  pub next-in : get_or shards i 0 ≡ n →
+  pub next_in : get_or shards i 0 ≡ n →
       shard count (take (i + 1) strings) n ≡ shard count (take i strings) n ++ w ∷ []
-  next-in is = grind (arith, common_steps, take_there strings i w at, shard-read-at)
+  next_in is = grind (arith, common_steps, take_there strings i w at, shard-read-at)
 
-  pub next-out : (get_or shards i 0 ≡ n → ⊥) →
+  pub next_out : (get_or shards i 0 ≡ n → ⊥) →
       shard count (take (i + 1) strings) n ≡ shard count (take i strings) n
-  next-out not = grind (arith, common_steps, take_there strings i w at, shard-read-at)
+  next_out not = grind (arith, common_steps, take_there strings i w at, shard-read-at)

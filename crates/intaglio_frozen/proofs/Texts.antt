@@ -3,7 +3,7 @@ use Rattle.std.proofs.Common.{◌≡◌, ℕ, zero, suc, ◌<◌, ◌≤◌, Lis
 use Rattle.std.proofs.lemmas.Option.{slice_get_within}
 use Rattle.std.proofs.lemmas.Str.{IsUtf8-between, IsCharBoundary-start}
 use Rattle.std.specs.Str.{IsUtf8, IsCharBoundary}
-use Rattle.intaglio_frozen.proofs.Places.{strings_length, strings-get, ends-order, numbers-length}
+use Rattle.intaglio_frozen.proofs.Places.{strings_length, strings_get, ends_order, numbers_length}
 use Rattle.intaglio_frozen.specs.Layout.{count, ends_at, text_at, ends, strings}
 use Rattle.intaglio_frozen.specs.IsFrozen.{IsBlock, AreTexts}
 use Rattle.intaglio_frozen.specs.Checked.{AreCharEnds}
@@ -20,11 +20,11 @@ pub texts-between : (bs : List ℕ) → IsBlock bs → IsUtf8 (drop (text_at bs)
 texts-between bs block u all = λ i w at.
     let text = drop (text_at bs) bs in
     let below : i < count bs = omega (arith, slice_get_within (strings bs) i w at, strings_length bs) in
-    let within : i < length (ends bs) = omega (arith, below, numbers-length bs (ends_at bs) (count bs)) in
+    let within : i < length (ends bs) = omega (arith, below, numbers_length bs (ends_at bs) (count bs)) in
     let start = get_or (0 ∷ ends bs) i 0 in
     let end = get_or (ends bs) i 0 in
-    let is : Some (slice_range text start end) ≡ Some w = sym (strings-get bs i below) ∙ at in
+    let is : Some (slice_range text start end) ≡ Some w = sym (strings_get bs i below) ∙ at in
     let same : slice_range text start end ≡ w = cc in
     subst IsUtf8 same
-    (IsUtf8-between text start end u (ends-order bs i block below).0
+    (IsUtf8-between text start end u (ends_order bs i block below).0
     (char-start text (ends bs) i u all (omega (arith, within))) (all i within))

@@ -35,8 +35,5 @@ all_interned key held (c ∷ cs) apart =
 pub no_overflow : {C : Type 0} (key : C → Key) (cs : List C) (limit : ℕ) (e : InternError) →
     AreDistinct (map key cs) → length cs ≤ limit →
     IfOverflow e (limit < length (interned_all key [] cs)) → IfOverflow e ⊥
-no_overflow key cs limit (Overflow full) apart few more =
-    let all = all_interned key [] cs apart in
-    let beyond : limit < length cs = rw all at more in
-    omega (arith, beyond, few)
+no_overflow key cs limit (Overflow full) apart few more = grind (arith, all_interned key [] cs apart)
 no_overflow key cs limit (Memory refused) apart few more = tt

@@ -28,6 +28,7 @@ pub trait HashesAhead {
 /// are hashed: as many as there are places in `hashes`, or one if the table is small. (No clause says how
 /// many.)
 #[inline(always)]
+#[tactic(auto, using(std::proofs::lemmas::Grind::common_steps, crate::proofs::HashedAhead::alone))]
 pub fn look_ahead<T: HashesAhead, L: StringList>(
     table: &T,
     list: &L,

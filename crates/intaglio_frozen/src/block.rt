@@ -96,6 +96,7 @@ impl<'a> Block<'a> {
 
     // A string that is there.
     #[inline(always)]
+    #[tactic(auto, using(std::proofs::lemmas::Grind::common_steps, crate::proofs::Places::strings_length, crate::proofs::Places::ends_order, crate::proofs::Places::string_in))]
     pub(crate) fn string(&self, i: usize) -> &'a [u8]
         requires { i < length (strings self.now) }
         ensures { slice_get (strings self.now) i ≡ Some result.now }
@@ -154,6 +155,7 @@ impl<'a> Block<'a> {
     }
 
     // Whether each string ends where a character of this text does.
+    #[tactic(auto, using(std::proofs::lemmas::Grind::common_steps, crate::proofs::Places::numbers_length))]
     fn has_char_ends(&self, text: &str) -> bool
         ensures { IsTrue result → AreCharEnds text.now (ends self.now) }
     {

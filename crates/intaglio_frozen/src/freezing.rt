@@ -318,6 +318,7 @@ fn has_id(bytes: &[u8], id: DictionaryId) -> bool
 }
 
 // Whether these are the strings of a block.
+#[tactic(auto, using(std::proofs::lemmas::Grind::common_steps, crate::proofs::Found::same_by_get))]
 fn has_strings<L: StringList>(block: &Block<'_>, list: &L) -> bool
     ensures { IsTrue result → strings block.now ≡ L.strings list.now }
 {
@@ -333,6 +334,7 @@ fn has_strings<L: StringList>(block: &Block<'_>, list: &L) -> bool
 }
 
 // Whether each string of a block, which have these hashes, is found at its symbol.
+#[tactic(auto, using(std::proofs::lemmas::Grind::common_steps, crate::proofs::Checked::hashes_of, crate::proofs::Checked::found_all))]
 fn finds_all(block: &Block<'_>, hashes: &[u64]) -> bool
     requires { hashes.now ≡ hashes_under (key0_of block.now) (key1_of block.now) (strings block.now) }
     ensures { IsTrue result → FindsAll block.now }

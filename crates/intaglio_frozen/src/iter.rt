@@ -75,6 +75,7 @@ impl<'a> Iterator for FrozenStrings<'a> {
     ghost remaining = { item_count (λ rest. rest) };
 
     #[inline]
+    #[tactic(auto, using(std::proofs::lemmas::Grind::common_steps, crate::proofs::Left::next_number, crate::proofs::Ends::ends_within))]
     fn next(&mut self) -> Option<&'a [u8]> {
         if self.left == 0 {
             return None;

@@ -29,6 +29,7 @@ use std::hash::BuildHasher;
 /// spelling_law(&table, b"rose");
 /// prove!(of_frozen == of_table);
 /// ```
+#[tactic(auto, using(crate::proofs::Spelled::first_spelled))]
 pub fn spelling_law<C: Content, S: BuildHasher>(table: &Table<C, S>, string: &[u8])
     requires { (content : C) → C.key content ≡ C.spelling content ∷ [] }
     ensures { let contents = table.now.state.contents in
@@ -62,6 +63,7 @@ pub fn same_dictionary_law(first: &[u8], second: &[u8], id: DictionaryId)
 /// # use intaglio_frozen::laws::renumbering_law;
 /// renumbering_law();
 /// ```
+#[tactic(auto, using(crate::proofs::Renumbered::renumbering))]
 pub fn renumbering_law()
     ensures { RenumberingKeepsStrings }
 {
@@ -69,6 +71,7 @@ pub fn renumbering_law()
 }
 
 /// Renumbering the codes of one map by another gives a map from the first list to the last.
+#[tactic(auto, using(crate::proofs::Renumbered::composed))]
 pub fn map_law()
     ensures { MapsCompose }
 {
@@ -76,6 +79,7 @@ pub fn map_law()
 }
 
 /// There is only one map from a list to strings of which no two are equal, as those of a table.
+#[tactic(auto, using(crate::proofs::Renumbered::unique))]
 pub fn one_map_law()
     ensures { MapsAreUnique }
 {
@@ -84,6 +88,7 @@ pub fn one_map_law()
 
 /// Merging is the same whichever way it is nested: lists may be merged first,
 /// and then their union with others.
+#[tactic(auto, using(crate::proofs::Renumbered::nested))]
 pub fn nesting_law()
     ensures { MergingNests }
 {
@@ -92,6 +97,7 @@ pub fn nesting_law()
 
 /// The shards of a union are the unions of shards: so shards can be merged each by itself, and the numbering
 /// depends only on the lists in their order and on the number of shards.
+#[tactic(auto, using(crate::proofs::Filtered::shards_merge))]
 pub fn sharding_law()
     ensures { ShardsMerge }
 {

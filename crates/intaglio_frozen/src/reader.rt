@@ -103,6 +103,7 @@ impl<'a> Reader<'a> {
 
     // A string, if it is there and lies within the text.
     #[inline(always)]
+    #[tactic(auto, using(std::proofs::lemmas::Grind::common_steps, std::proofs::lemmas::Option::slice_get_past, crate::proofs::Places::strings_length, crate::proofs::Places::part_whole))]
     pub(crate) fn string(&self, i: usize) -> Option<&'a [u8]>
         ensures found { AreSectionsOf self.now.bytes.now self.now.sections
             → IfSome result (λ s. slice_get (strings self.now.bytes.now) i ≡ Some s.now) }
@@ -147,6 +148,7 @@ impl<'a> Reader<'a> {
 
     // The same, if there is a string with this symbol.
     #[inline(always)]
+    #[tactic(auto, using(std::proofs::lemmas::Grind::common_steps, std::proofs::lemmas::Option::slice_get_past, crate::proofs::Places::strings_length))]
     pub(crate) fn candidate(&self, hashed: u64) -> Option<u32>
         ensures found { AreSectionsOf self.now.bytes.now self.now.sections → (w : List ℕ)
             → hashed ≡ hash self.now.bytes.now w → IsCandidate self.now.bytes.now w result }
@@ -210,6 +212,7 @@ impl<'a> Reader<'a> {
 
     // Where a string ends.
     #[inline(always)]
+    #[tactic(auto, using(std::proofs::lemmas::Grind::common_steps, crate::proofs::Places::end_is))]
     pub(crate) fn end_of(&self, i: usize) -> usize
         requires { i < self.now.sections.count }
         ensures { AreSectionsOf self.now.bytes.now self.now.sections
@@ -220,6 +223,7 @@ impl<'a> Reader<'a> {
 }
 
 // Whether no end lies before the one before it, and the last is `all`.
+#[tactic(auto, using(std::proofs::lemmas::Grind::common_steps, crate::proofs::Places::numbers_step))]
 fn are_ends(bytes: &[u8], at: usize, count: usize, all: usize) -> bool
     requires { at + 4 * count ≤ length bytes.now }
     ensures { IsTrue result ↔ AreEnds 0 all (numbers_at bytes.now at count) }

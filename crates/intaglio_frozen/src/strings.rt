@@ -35,6 +35,7 @@ fn hash_list<L: StringList>(key0: u64, key1: u64, list: &L) -> u64
     hasher.finish()
 }
 
+#[tactic(auto, using(std::proofs::lemmas::Grind::common_steps, crate::proofs::Hashed::next_end, crate::proofs::Hashed::last_end))]
 fn write_ends<L: StringList>(hasher: &mut KeyedHasher, list: &L)
     ensures { hasher.new ≡ write hasher.old (end_bytes 0 (L.strings list.now)) }
 {
@@ -53,6 +54,7 @@ fn end_behind(at: u32, string: &[u8]) -> u32
     at.wrapping_add((string.len() % (1 << 32)) as u32)
 }
 
+#[tactic(auto, using(std::proofs::lemmas::Grind::common_steps, crate::proofs::Hashed::next_text, crate::proofs::Hashed::last_text))]
 fn write_texts<L: StringList>(hasher: &mut KeyedHasher, list: &L)
     ensures { hasher.new ≡ write hasher.old (concat (L.strings list.now)) }
 {

@@ -3,7 +3,7 @@ use Rattle.std.proofs.Common.{◌∙◌, ◌++◌, length, ap, arith}
 use Rattle.std.specs.List.{flat_map}
 use Rattle.std.specs.Hash.DefaultHasher.{with_keys, write}
 use Rattle.intaglio_frozen.specs.SetId.{number_bytes, set_bytes}
-use Rattle.intaglio_frozen.proofs.Hashed.{last-item, next-item, written-behind}
+use Rattle.intaglio_frozen.proofs.Hashed.{last_item, next-item, written-behind}
 use Rattle.intaglio_frozen.proofs.set_id.hash_sets.Goals as goal
 
 pub loop-set-init : goal.loop-set-init
@@ -21,4 +21,4 @@ loop-set-preserved c =
     c.write_two-in-loop-set.ensures ∙ c.loop-set.invariant
 
 pub returns : goal.returns
-returns c = grind (arith, common_steps, last-item)
+returns c = grind (arith, common_steps, last_item)

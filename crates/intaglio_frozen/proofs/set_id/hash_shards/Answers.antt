@@ -4,7 +4,7 @@ use Rattle.std.specs.List.{flat_map}
 use Rattle.std.specs.Hash.DefaultHasher.{with_keys, write}
 use Rattle.intaglio_frozen.specs.declared.id.DictionaryId.{DictionaryId}
 use Rattle.intaglio_frozen.specs.SetId.{first_kind, number_bytes, shard_bytes}
-use Rattle.intaglio_frozen.proofs.Hashed.{last-item, next-item, written-behind}
+use Rattle.intaglio_frozen.proofs.Hashed.{last_item, next-item, written-behind}
 use Rattle.intaglio_frozen.proofs.set_id.hash_shards.Goals as goal
 
 abbrev none : DictionaryId
@@ -30,4 +30,4 @@ loop-id-preserved c =
     (omega (arith, c.loop-id-test.true)) written ∙ c.loop-id.invariant
 
 pub returns : goal.returns
-returns c = grind (arith, common_steps, last-item)
+returns c = grind (arith, common_steps, last_item)

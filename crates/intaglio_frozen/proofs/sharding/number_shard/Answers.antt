@@ -3,7 +3,7 @@ use Rattle.std.proofs.Common.{◌≡◌, ◌∙◌, ◌<◌, [], ◌∷◌, ◌+
 use Rattle.std.proofs.lemmas.List.{length-map, length-set}
 use Rattle.std.proofs.lemmas.Option.{slice_get-get_or}
 use Rattle.intaglio_frozen.specs.Shards.{shard_of}
-use Rattle.intaglio_frozen.proofs.Numbered.{HavePlaces, so_far, far-few, far-in, far-length, far-out, last-places, places-in, places-out}
+use Rattle.intaglio_frozen.proofs.Numbered.{HavePlaces, so_far, far-few, far-in, far_length, far-out, last_places, places-in, places-out}
 use Rattle.intaglio_frozen.proofs.sharding.number_shard.Goals as goal
 use Rattle.intaglio_frozen.proofs.sharding.number_shard.Goals.{then-number-shards, else-number-shards}
 
@@ -67,8 +67,8 @@ returns g c =
     let all : c.loop-place.place ≡ length strings = grind (arith, common_steps) in
     record {
       next = c.loop-place.invariant.next
-          ∙ far-length count strings shards c.requires.shards number c.loop-place.place all;
-      numbered = last-places count strings shards c.requires.shards number c.loop-place.numbers
+          ∙ far_length count strings shards c.requires.shards number c.loop-place.place all;
+      numbered = last_places count strings shards c.requires.shards number c.loop-place.numbers
           c.loop-place.place all c.loop-place.invariant.places;
       len = c.loop-place.invariant.len;
     }

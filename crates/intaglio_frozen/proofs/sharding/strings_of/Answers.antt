@@ -3,7 +3,7 @@ use Rattle.std.proofs.Common.{◌≡◌, ◌∙◌, ◌++◌, [], ◌∷◌, ap,
 use Rattle.std.proofs.lemmas.List.{length-map, map-append}
 use Rattle.std.proofs.lemmas.Option.{slice_get-get_or}
 use Rattle.intaglio_frozen.specs.Shards.{shard_of}
-use Rattle.intaglio_frozen.proofs.Sharded.{next-in, next-out}
+use Rattle.intaglio_frozen.proofs.Sharded.{next_in, next_out}
 use Rattle.intaglio_frozen.proofs.sharding.strings_of.Goals as goal
 use Rattle.intaglio_frozen.proofs.sharding.strings_of.Goals.{then-shards-i+in_ok-push, else-shards-i}
 
@@ -12,12 +12,12 @@ loop-i-preserved g c =
     let strings = g.L.StringList.strings c.args.list.now in
     let i = c.loop-i.i in
     elim c.if-shards-i.branch [
-      | then-shards-i+in_ok-push w ↦ grind (arith, common_steps, map-append, next-in)
+      | then-shards-i+in_ok-push w ↦ grind (arith, common_steps, map-append, next_in)
       | else-shards-i w ↦
           let string = get_or strings i [] in
           let there =
           slice_get-get_or strings i [] (omega (arith, ap length c.requires, length-map strings (shard_of c.args.count))) in
           ap (λ t. map (λ v. v.now) t.items) w.strings-is ∙ c.loop-i.invariant
-          ∙ sym (next-out c.args.count strings c.args.shards.now c.requires i c.args.number string there
+          ∙ sym (next_out c.args.count strings c.args.shards.now c.requires i c.args.number string there
           w.if-shards-i.false)
     ]

@@ -2,7 +2,7 @@ use Rattle.std.proofs.lemmas.Grind.{common_steps}
 use Rattle.std.proofs.Common.{◌∙◌, ◌+◌, ◌<◌, length-set, take, arith}
 use Rattle.std.proofs.lemmas.List.{get_or_default, length-take-le}
 use Rattle.std.proofs.lemmas.List.Sums.{count_by-le-length}
-use Rattle.intaglio_frozen.proofs.Marked.{is_in, counted-more}
+use Rattle.intaglio_frozen.proofs.Marked.{is_in, counted_more}
 use Rattle.intaglio_frozen.proofs.stuck.sizes_of.Goals as goal
 
 pub overflow_add-index_mut : goal.overflow_add-index_mut
@@ -20,4 +20,4 @@ overflow_add-index_mut c =
     }
 
 pub loop-i-preserved : goal.loop-i-preserved
-loop-i-preserved c = grind (arith, common_steps, get_or_default, length-set, counted-more)
+loop-i-preserved c = grind (arith, common_steps, get_or_default, length-set, counted_more)

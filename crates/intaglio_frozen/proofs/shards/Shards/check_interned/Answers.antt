@@ -1,13 +1,13 @@
 use Rattle.std.proofs.lemmas.Grind.{common_steps}
 use Rattle.std.proofs.Common.{◌∙◌, Some, ap, arith, sym}
-use Rattle.intaglio_frozen.proofs.Sharded.{found-below, found-none, found-some, starts-length}
+use Rattle.intaglio_frozen.proofs.Sharded.{found_below, found_none, found-some, starts_length}
 use Rattle.intaglio_frozen.proofs.shards.Shards.check_interned.Goals as goal
 
 pub index-requires-in-Some : goal.index-requires-in-Some
-index-requires-in-Some c = grind (arith, common_steps, starts-length)
+index-requires-in-Some c = grind (arith, common_steps, starts_length)
 
 pub overflow_add-index : goal.overflow_add-index
-overflow_add-index c = grind (arith, common_steps, found-below)
+overflow_add-index c = grind (arith, common_steps, found_below)
 
 pub returns-in-Some : goal.returns-in-Some
 returns-in-Some c =
@@ -20,4 +20,4 @@ returns-in-Some c =
     rw (← c.self.view_is) (ap Some c.new.ensures ∙ found)
 
 pub returns-in-None : goal.returns-in-None
-returns-in-None c = grind (arith, common_steps, found-none)
+returns-in-None c = grind (arith, common_steps, found_none)

@@ -1,11 +1,11 @@
 use Rattle.std.proofs.lemmas.Grind.{common_steps}
 use Rattle.std.proofs.Common.{◌≡◌, ◌-◌, ◌+◌, Some, ap, arith, length, slice_get}
 use Rattle.intaglio_frozen.specs.Shards.{joined}
-use Rattle.intaglio_frozen.proofs.Sharded.{all-taken, shard-read, start-read, starts-length}
+use Rattle.intaglio_frozen.proofs.Sharded.{all-taken, shard_read, start-read, starts_length}
 use Rattle.intaglio_frozen.proofs.shards.Shards.len.Goals as goal
 
 pub index-requires : goal.index-requires
-index-requires c = grind (arith, common_steps, starts-length)
+index-requires c = grind (arith, common_steps, starts_length)
 
 -- the last shard ends where all end
 count : (c : goal.After-len) → c.index.result.now + c.len.result ≡ length (joined c.self.inside.tables.items)
@@ -13,7 +13,7 @@ count c =
     let shards = c.self.inside.tables.items in
     let last = c.len-last.result - 1 in
     let ws = c.index-2.result.now in
-    let at : slice_get shards last ≡ Some ws = grind (arith, common_steps, shard-read) in
+    let at : slice_get shards last ≡ Some ws = grind (arith, common_steps, shard_read) in
     let start =
     start-read c.self.inside.starts.items shards last c.index.result.now ws
     c.self.invariant.starts at c.index.ensures in
