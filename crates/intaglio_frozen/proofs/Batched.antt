@@ -5,7 +5,7 @@ use Rattle.std.proofs.lemmas.Option.{slice_get-map, slice_get-get_or}
 use Rattle.intaglio_interner.specs.State.{first}
 use Rattle.intaglio_frozen.specs.Layout.{strings}
 use Rattle.intaglio_frozen.specs.LookUp.{find, FindsAll}
-use Rattle.intaglio_frozen.proofs.Found.{find-is-first}
+use Rattle.intaglio_frozen.proofs.Found.{find_is_first}
 
 -- an element of a list that has some
 pub element : {S : Type 0} (all : List S) (n : ℕ) → n < length all → S
@@ -14,21 +14,21 @@ element (s ∷ ss) n lt = s
 
 module _ {S : Type 0} (all : List S) (n : ℕ) where
   -- the string there
-  pub string-there : (string : S → List ℕ) (d : S) → n < length all →
+  pub string_there : (string : S → List ℕ) (d : S) → n < length all →
       slice_get (map string all) n ≡ Some (string (get_or all n d))
-  string-there string d lt = slice_get-map string all n ∙ ap (option_map string) (slice_get-get_or all n d lt)
+  string_there string d lt = slice_get-map string all n ∙ ap (option_map string) (slice_get-get_or all n d lt)
 
   -- what is found of those so far, and of one more
-  pub found-more : {Y : Type 0} (f : S → Y) (d : S) (old new : List Y) (y : Y) → n < length all →
+  pub found_more : {Y : Type 0} (f : S → Y) (d : S) (old new : List Y) (y : Y) → n < length all →
       old ≡ map f (take n all) → new ≡ old ++ y ∷ [] → y ≡ f (get_or all n d)
       → new ≡ map f (take (n + 1) all)
-  found-more f d old new y lt before more is = more ∙ rw (before, is, map_more f all n d lt) refl
+  found_more f d old new y lt before more is = more ∙ rw (before, is, map_more f all n d lt) refl
 
 -- what is found of strings in a frozen table are their first positions
-pub found-first : {S : Type 0} (string : S → List ℕ) (bs : List ℕ) (ss : List S) → FindsAll bs
+pub found_first : {S : Type 0} (string : S → List ℕ) (bs : List ℕ) (ss : List S) → FindsAll bs
     → map (λ s. find bs (string s)) ss ≡ map (λ s. first (λ w. w ∷ []) (strings bs) (string s ∷ [])) ss
-found-first string bs [] all = refl
-found-first string bs (s ∷ ss) all =
-    let here = find-is-first bs (string s) all in
-    let others = found-first string bs ss all in
+found_first string bs [] all = refl
+found_first string bs (s ∷ ss) all =
+    let here = find_is_first bs (string s) all in
+    let others = found_first string bs ss all in
     cc

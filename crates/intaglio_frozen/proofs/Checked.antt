@@ -9,9 +9,9 @@ use Rattle.intaglio_frozen.specs.LookUp.{hash, hash_under, find, FindsAll}
 use Rattle.intaglio_frozen.specs.Checked.{IsFoundAt, AreFoundBelow, AreFoundFrom, AreHashesFrom}
 
 -- those before, and a batch
-pub found-further : (bs : List ℕ) (start n : ℕ) → AreFoundBelow bs start → AreFoundFrom bs start n →
+pub found_further : (bs : List ℕ) (start n : ℕ) → AreFoundBelow bs start → AreFoundFrom bs start n →
     AreFoundBelow bs (start + n)
-found-further bs start n before after = λ k l. elim (cases_lt k start) [
+found_further bs start n before after = λ k l. elim (cases_lt k start) [
   | inl below ↦ before k below
   | inr above ↦
       let same : start + (k - start) ≡ k = omega arith in rw same at (after (k - start) (omega arith))

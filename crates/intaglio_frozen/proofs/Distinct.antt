@@ -9,18 +9,18 @@ use Rattle.intaglio_interner.specs.Change.{InternsForm, InternsNewForm}
 use Rattle.intaglio_interner.specs.Lookup.{IsStored, Keeps}
 use Rattle.intaglio_interner.specs.State.{State, AreDistinct, first}
 use Rattle.intaglio_symbol.specs.declared.error.InternError.{InternError}
-use Rattle.intaglio_frozen.proofs.Found.{key, at-key}
+use Rattle.intaglio_frozen.proofs.Found.{key, at_key}
 use Rattle.intaglio_frozen.specs.Freezing.{AreEqual, HasNoEqual}
 
 -- if a search finds only old symbols, a string that is interned by its result with a new symbol is appended
-by-found : (o : Option ℕ) (old new : State (List ℕ)) (w : List ℕ) (s : ℕ) →
+by_found : (o : Option ℕ) (old new : State (List ℕ)) (w : List ℕ) (s : ℕ) →
     ((i : ℕ) → o ≡ Some i → i < length old.contents)
     → MatchOption o (InternsNewForm key (λ v. v) old (key w) w (Ok s) new)
     (λ i. ◌≡◌ {A = Result ℕ InternError} (Ok s) (Ok i) × (new ≡ old))
     → length old.contents ≤ s → new.contents ≡ old.contents ++ w ∷ []
-by-found None old new w s below step past =
+by_found None old new w s below step past =
     step.contents.added ∙ ap (λ v. old.contents ++ v ∷ []) step.contents.same_spelling
-by-found (Some i) old new w s below step past =
+by_found (Some i) old new w s below step past =
     let same : s ≡ i = cc in
     absurd (omega (arith, below i refl, same, past))
 
@@ -28,11 +28,11 @@ by-found (Some i) old new w s below step past =
 pub added : (old new : State (List ℕ)) (w : List ℕ) (s : ℕ) →
     InternsForm key (λ v. v) old (key w) w (Ok s) new → length old.contents ≤ s →
     new.contents ≡ old.contents ++ w ∷ []
-added old new w s step past = grind (arith, common_steps, by-found, key, some-below, length-map)
+added old new w s step past = grind (arith, common_steps, by_found, key, some-below, length-map)
 
 -- at a position below i, the first i strings have what all strings have there
-slice_get-take : (ws : List (List ℕ)) (i k : ℕ) → k < i → slice_get (take i ws) k ≡ slice_get ws k
-slice_get-take ws i k l = grind (arith, common_steps, gets)
+slice_get_take : (ws : List (List ℕ)) (i k : ℕ) → k < i → slice_get (take i ws) k ≡ slice_get ws k
+slice_get_take ws i k l = grind (arith, common_steps, gets)
 
 -- a string whose symbol is one of those before is equal to the string there
 pub again : (ws : List (List ℕ)) (old new : State (List ℕ)) (i s : ℕ) (w : List ℕ) →
@@ -43,15 +43,15 @@ again ws old new i s w held at below kept stored =
     let there : slice_get ws s ≡ Some v =
     slice_get-get_or ws s [] (omega (arith, below, slice_get_within ws i w at)) in
     let before : slice_get old.contents s ≡ Some v =
-    ap (λ t. slice_get t s) held ∙ slice_get-take ws i s below ∙ there in
+    ap (λ t. slice_get t s) held ∙ slice_get_take ws i s below ∙ there in
     let after : Some v ≡ Some stored.content = sym (kept.stored s v before) ∙ stored.stands in
     let keys : key stored.content ≡ key w = stored.same_key in
     let same : v ≡ w = cc in
     (below, w, there ∙ ap Some same, at)
 
 -- if no two strings have equal keys, no string is equal to a later one
-pub none-equal : (ws : List (List ℕ)) → AreDistinct (map key ws) → HasNoEqual ws
-none-equal ws apart i j equal =
-    let first = at-key ws i [] equal.1 equal.2 in
-    let second = at-key ws j [] equal.1 equal.3 in
+pub none_equal : (ws : List (List ℕ)) → AreDistinct (map key ws) → HasNoEqual ws
+none_equal ws apart i j equal =
+    let first = at_key ws i [] equal.1 equal.2 in
+    let second = at_key ws j [] equal.1 equal.3 in
     apart i j [] equal.0 second.0 (first.1 ∙ sym second.1)

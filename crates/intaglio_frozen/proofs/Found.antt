@@ -7,7 +7,7 @@ use Rattle.std.specs.Cmp.Lexicographic.{bytes_decides}
 use Rattle.intaglio_content.specs.Key.{Key}
 use Rattle.intaglio_interner.specs.State.{first, AreDistinct}
 use Rattle.intaglio_interner.proofs.First.{first-none, first-some}
-use Rattle.intaglio_frozen.proofs.Apart.{distinct-from}
+use Rattle.intaglio_frozen.proofs.Apart.{distinct_from}
 use Rattle.intaglio_hash.specs.Numbers.{u32_at}
 use Rattle.intaglio_frozen.specs.Layout.{tags_at, strings}
 use Rattle.intaglio_frozen.specs.LookUp.{hash, place, if_same, find_at, find, FindsAll}
@@ -17,26 +17,26 @@ abbrev pub key : List ℕ → Key
 key w = w ∷ []
 
 -- if the key at a position is that of a text, the text is there
-key-at : (ts : List (List ℕ)) (j : ℕ) (d : Key) (w : List ℕ) → j < length (map key ts) →
+key_at : (ts : List (List ℕ)) (j : ℕ) (d : Key) (w : List ℕ) → j < length (map key ts) →
     get_or (map key ts) j d ≡ key w → slice_get ts j ≡ Some w
-key-at ts j d w l e = grind (arith, common_steps, gets)
+key_at ts j d w l e = grind (arith, common_steps, gets)
 
 -- where a text is, there is a key, and it is that text's
-pub at-key : (ts : List (List ℕ)) (j : ℕ) (d : Key) (w : List ℕ) → slice_get ts j ≡ Some w →
+pub at_key : (ts : List (List ℕ)) (j : ℕ) (d : Key) (w : List ℕ) → slice_get ts j ≡ Some w →
     (j < length (map key ts)) × (get_or (map key ts) j d ≡ key w)
-at-key ts j d w e = grind (arith, common_steps, gets)
+at_key ts j d w e = grind (arith, common_steps, gets)
 
 -- if a result is a position of a text or none, and each position of the text is the result, it is the first
-by-result : (ts : List (List ℕ)) (w : List ℕ) (r : Option ℕ) →
+by_result : (ts : List (List ℕ)) (w : List ℕ) (r : Option ℕ) →
     ((s : ℕ) → r ≡ Some s → slice_get ts s ≡ Some w) → ((i : ℕ) → slice_get ts i ≡ Some w → r ≡ Some i) →
     r ≡ first key ts (key w)
-by-result ts w None sound complete =
+by_result ts w None sound complete =
     sym (first-none (map key ts) (key w) (λ j l e. let q : ◌≡◌ {A = Option ℕ} None (Some j) =
-    complete j (key-at ts j [] w l e) in cc))
-by-result ts w (Some s) sound complete =
-    let h = at-key ts s [] w (sound s refl) in
+    complete j (key_at ts j [] w l e) in cc))
+by_result ts w (Some s) sound complete =
+    let h = at_key ts s [] w (sound s refl) in
     sym (first-some (map key ts) (key w) s h.0 h.1 (λ j l e. let q : Some s ≡ Some j =
-    complete j (key-at ts j [] w (omega (arith, l, h.0)) e) in let same : s ≡ j = cc in
+    complete j (key_at ts j [] w (omega (arith, l, h.0)) e) in let same : s ≡ j = cc in
     omega (arith, l, same)))
 
 -- if a test leaves a symbol or none, and a symbol is left, the test is passed, and it is that symbol
@@ -49,50 +49,50 @@ passed : (b : Bool) (o : Option ℕ) (i : ℕ) → cond b o None ≡ Some i → 
 passed b o i e = grind (arith, common_steps)
 
 -- if a comparison with the string of a symbol finds one, it is this symbol, and the string is the sought one
-same-sound : (o : Option (List ℕ)) (s i : ℕ) (w : List ℕ) → if_same o s w ≡ Some i → (o ≡ Some w) × (s ≡ i)
-same-sound None s i w e = cc
-same-sound (Some t) s i w e =
+same_sound : (o : Option (List ℕ)) (s i : ℕ) (w : List ℕ) → if_same o s w ≡ Some i → (o ≡ Some w) × (s ≡ i)
+same_sound None s i w e = cc
+same_sound (Some t) s i w e =
     let h = tested (bytes_eq t w) s i e in
     (ap Some ((bytes_decides t w).0 h.0), h.1)
 
 -- what is found is the sought text
-pub find-sound : (bs w : List ℕ) (i : ℕ) → find bs w ≡ Some i → slice_get (strings bs) i ≡ Some w
+pub find_sound : (bs w : List ℕ) (i : ℕ) → find bs w ≡ Some i → slice_get (strings bs) i ≡ Some w
 unfolding find
-find-sound bs w i e =
+find_sound bs w i e =
     let p = place bs (hash bs w) in
     let s = u32_at bs (128 + 4 * p) in
-    let h = same-sound (slice_get (strings bs) s) s i w
+    let h = same_sound (slice_get (strings bs) s) s i w
     (passed (get_or bs (tags_at bs + p) 0 == hash bs w % 256) (if_same (slice_get (strings bs) s) s w) i
     e) in
     ap (slice_get (strings bs)) (sym h.1) ∙ h.0
 
 -- if each string is found where it is, a look-up finds the first position of a string, or none if it has none
-pub find-is-first : (bs w : List ℕ) → FindsAll bs → find bs w ≡ first key (strings bs) (key w)
-find-is-first bs w all = by-result (strings bs) w (find bs w) (λ s e. find-sound bs w s e) (λ i e. all i w e)
+pub find_is_first : (bs w : List ℕ) → FindsAll bs → find bs w ≡ first key (strings bs) (key w)
+find_is_first bs w all = by_result (strings bs) w (find bs w) (λ s e. find_sound bs w s e) (λ i e. all i w e)
 
 -- if each string is found at its position, no two strings have equal keys
-pub all-distinct : (bs : List ℕ) → FindsAll bs → AreDistinct (map key (strings bs))
-all-distinct bs all = distinct-from (strings bs) (λ i j w below one other.
+pub all_distinct : (bs : List ℕ) → FindsAll bs → AreDistinct (map key (strings bs))
+all_distinct bs all = distinct_from (strings bs) (λ i j w below one other.
     let found : Some i ≡ Some j = sym (all i w one) ∙ all j w other in
     let same : i ≡ j = cc in
     omega (arith, below, same))
 
 -- what is found, step by step
-pub find-by : (bs w : List ℕ) (h p : ℕ) → h ≡ hash bs w → p ≡ place bs h →
+pub find_by : (bs w : List ℕ) (h p : ℕ) → h ≡ hash bs w → p ≡ place bs h →
     find bs w ≡ find_at bs p (h % 256) w
 unfolding find
-find-by bs w h p eh ep = rw (ep, eh) refl
+find_by bs w h p eh ep = rw (ep, eh) refl
 
 -- at a place that has another tag, nothing is found
-pub at-other : (bs w : List ℕ) (p tag t : ℕ) → t ≡ tags_at bs → (get_or bs (t + p) 0 ≡ tag → ⊥) →
+pub at_other : (bs w : List ℕ) (p tag t : ℕ) → t ≡ tags_at bs → (get_or bs (t + p) 0 ≡ tag → ⊥) →
     find_at bs p tag w ≡ None
-at-other bs w p tag t et n = grind (arith, common_steps)
+at_other bs w p tag t et n = grind (arith, common_steps)
 
 -- at a place that has the tag, its symbol is found if its string is the sought one, and else nothing
-pub at-same : (bs w : List ℕ) (p tag t s : ℕ) → t ≡ tags_at bs → get_or bs (t + p) 0 ≡ tag →
+pub at_same : (bs w : List ℕ) (p tag t s : ℕ) → t ≡ tags_at bs → get_or bs (t + p) 0 ≡ tag →
     s ≡ u32_at bs (128 + 4 * p) →
     find_at bs p tag w ≡ if_same (slice_get (strings bs) s) s w
-at-same bs w p tag t s et e es = grind (arith, common_steps)
+at_same bs w p tag t s et e es = grind (arith, common_steps)
 
 -- what a test of the only symbol finds
 pub same-string : (s : ℕ) (o : Option (List ℕ)) (t w : List ℕ) (b : Bool) → o ≡ Some t → bytes_eq t w ≡ b →
@@ -100,16 +100,16 @@ pub same-string : (s : ℕ) (o : Option (List ℕ)) (t w : List ℕ) (b : Bool) 
 same-string s o t w b e eb = rw (e, eb) refl
 
 -- the string at i is found there if its place has the symbol i
-pub found-same : (bs w : List ℕ) (s i : ℕ) → slice_get (strings bs) i ≡ Some w →
+pub found_same : (bs w : List ℕ) (s i : ℕ) → slice_get (strings bs) i ≡ Some w →
     find bs w ≡ if_same (slice_get (strings bs) s) s w → s ≡ i → find bs w ≡ Some i
-found-same bs w s i at e same =
+found_same bs w s i at e same =
     e ∙ same-string s (slice_get (strings bs) s) w w true (ap (slice_get (strings bs)) same
     ∙ at) ((bytes_decides w w).1 refl) ∙ ap Some same
 
 -- if a look-up may find the symbol s alone, it finds no other
-pub found-other : (bs w : List ℕ) (s i : ℕ) → find bs w ≡ if_same (slice_get (strings bs) s) s w →
+pub found_other : (bs w : List ℕ) (s i : ℕ) → find bs w ≡ if_same (slice_get (strings bs) s) s w →
     (s ≡ i → ⊥) → find bs w ≡ Some i → ⊥
-found-other bs w s i e other found = other (same-sound (slice_get (strings bs) s) s i w (sym e ∙ found)).1
+found_other bs w s i e other found = other (same_sound (slice_get (strings bs) s) s i w (sym e ∙ found)).1
 
 -- two lists with the same text at each position
 pub same_by_get : (xs ys : List (List ℕ)) (n : ℕ) → n ≡ length xs → n ≡ length ys →

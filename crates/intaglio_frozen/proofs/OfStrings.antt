@@ -8,7 +8,7 @@ use Rattle.std.proofs.lemmas.List.Edits.{length-between}
 use Rattle.std.proofs.lemmas.List.Folds.{drop_split}
 use Rattle.std.proofs.Math.Seq.{take-add}
 use Rattle.intaglio_frozen.proofs.Ends.{ends_within}
-use Rattle.intaglio_frozen.proofs.Places.{strings_length, u32-in}
+use Rattle.intaglio_frozen.proofs.Places.{strings_length, u32_in}
 use Rattle.intaglio_frozen.specs.Strings.{strings_from, AreEnds}
 use Rattle.intaglio_hash.specs.Numbers.{u32_at}
 use Rattle.intaglio_frozen.specs.Layout.{kind, numbers_at, count, own0, own1, ends_at, pilots_at, text_at, ends, strings}
@@ -52,7 +52,7 @@ drop_bytes xs at f k = let same = get_or-drop at xs k 0 in omega (arith, same, f
 end_back : (bs : List ℕ) (p : ℕ) → AreBytes bs → p + 4 ≤ length bs →
     to_le_bytes w32 (u32_at bs p) ≡ take 4 (drop p bs)
 end_back bs p f l =
-    let same : u32_at (drop p bs) 0 ≡ u32_at bs p = u32-in bs p 0 p (omega arith) in
+    let same : u32_at (drop p bs) 0 ≡ u32_at bs p = u32_in bs p 0 p (omega arith) in
     ap (to_le_bytes w32) (sym same)
     ∙ four_back (drop p bs) (drop_bytes bs p f) (omega (arith, length-drop p bs, l))
 

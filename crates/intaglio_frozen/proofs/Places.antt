@@ -6,7 +6,7 @@ use Rattle.std.proofs.Math.Nat.{mul_comm}
 use Rattle.std.proofs.lemmas.List.{get_or-drop}
 use Rattle.std.specs.Slice.{IsGetRangeResult}
 use Rattle.intaglio_hash.specs.Push.{number}
-use Rattle.intaglio_frozen.proofs.Ends.{from-length, strings-at, ends-at}
+use Rattle.intaglio_frozen.proofs.Ends.{from_length, strings_at, end_bounds}
 use Rattle.intaglio_hash.specs.Numbers.{u32_at}
 use Rattle.intaglio_frozen.specs.Layout.{numbers_at, count, ends_at, text_at, ends, strings}
 use Rattle.intaglio_frozen.specs.IsFrozen.{IsBlock}
@@ -17,35 +17,35 @@ numbers_length bs at zero = refl
 numbers_length bs at (suc n) = ap suc (numbers_length bs (at + 4) n)
 
 -- the i-th of n numbers of four bytes is 4 * i bytes behind the first
-pub numbers-get : (bs : List ℕ) (at n i : ℕ) → i < n →
+pub numbers_get : (bs : List ℕ) (at n i : ℕ) → i < n →
     get_or (numbers_at bs at n) i 0 ≡ u32_at bs (at + 4 * i)
-numbers-get bs at zero i l = absurd (omega arith)
-numbers-get bs at (suc n) zero l = ap (u32_at bs) (omega arith)
-numbers-get bs at (suc n) (suc i) l = numbers-get bs (at + 4) n i (omega arith) ∙ ap (u32_at bs) (omega arith)
+numbers_get bs at zero i l = absurd (omega arith)
+numbers_get bs at (suc n) zero l = ap (u32_at bs) (omega arith)
+numbers_get bs at (suc n) (suc i) l = numbers_get bs (at + 4) n i (omega arith) ∙ ap (u32_at bs) (omega arith)
 
 -- there are as many strings as the header says
 pub strings_length : (bs : List ℕ) → length (strings bs) ≡ count bs
 unfolding strings
-strings_length bs = from-length 0 (drop (text_at bs) bs) (ends bs) ∙ numbers_length bs (ends_at bs) (count bs)
+strings_length bs = from_length 0 (drop (text_at bs) bs) (ends bs) ∙ numbers_length bs (ends_at bs) (count bs)
 
 -- a number in the bytes from a position on
-number-in : (bs : List ℕ) (a k j n : ℕ) → number (drop a bs) k j n ≡ number bs (a + k) j n
-number-in bs a k j zero = refl
-number-in bs a k j (suc n) = grind (arith, common_steps, number-in bs a k (suc j) n)
+number_in : (bs : List ℕ) (a k j n : ℕ) → number (drop a bs) k j n ≡ number bs (a + k) j n
+number_in bs a k j zero = refl
+number_in bs a k j (suc n) = grind (arith, common_steps, number_in bs a k (suc j) n)
 
 -- the number of four bytes at k in the bytes from a on is the one at a + k in all bytes
-pub u32-in : (bs : List ℕ) (a k at : ℕ) → at ≡ a + k → u32_at (drop a bs) k ≡ u32_at bs at
+pub u32_in : (bs : List ℕ) (a k at : ℕ) → at ≡ a + k → u32_at (drop a bs) k ≡ u32_at bs at
 unfolding u32_at
-u32-in bs a k at e = number-in bs a k 0 4 ∙ ap (λ p. number bs p 0 4) (sym e)
+u32_in bs a k at e = number_in bs a k 0 4 ∙ ap (λ p. number bs p 0 4) (sym e)
 
 -- where a text ends
 pub end_is : (bs : List ℕ) (i : ℕ) → i < count bs → get_or (ends bs) i 0 ≡ u32_at bs (ends_at bs + 4 * i)
-end_is bs i l = numbers-get bs (ends_at bs) (count bs) i l
+end_is bs i l = numbers_get bs (ends_at bs) (count bs) i l
 
 -- where it begins
-pub start-is-end : (bs : List ℕ) (i : ℕ) → 0 < i → get_or (0 ∷ ends bs) i 0 ≡ get_or (ends bs) (i - 1) 0
-start-is-end bs zero p = absurd (omega arith)
-start-is-end bs (suc i) p = ap (λ k. get_or (ends bs) k 0) (omega arith)
+pub start_is_end : (bs : List ℕ) (i : ℕ) → 0 < i → get_or (0 ∷ ends bs) i 0 ≡ get_or (ends bs) (i - 1) 0
+start_is_end bs zero p = absurd (omega arith)
+start_is_end bs (suc i) p = ap (λ k. get_or (ends bs) k 0) (omega arith)
 
 -- the string at i is the part of the text from the end before it, or from 0, to its own end
 pub strings_get : (bs : List ℕ) (i : ℕ) → i < count bs →
@@ -53,7 +53,7 @@ pub strings_get : (bs : List ℕ) (i : ℕ) → i < count bs →
     ≡ Some (slice_range (drop (text_at bs) bs) (get_or (0 ∷ ends bs) i 0) (get_or (ends bs) i 0))
 unfolding strings
 strings_get bs i l =
-    strings-at 0 (drop (text_at bs) bs) (ends bs) i (omega (arith, numbers_length bs (ends_at bs) (count bs)))
+    strings_at 0 (drop (text_at bs) bs) (ends bs) i (omega (arith, numbers_length bs (ends_at bs) (count bs)))
 
 -- a string, by where it begins and ends
 pub string_in : (bs t : List ℕ) (i start end : ℕ) → i < count bs → start ≡ get_or (0 ∷ ends bs) i 0 →
@@ -65,7 +65,7 @@ string_in bs t i start end l es ee et = rw (et, es, ee) (strings_get bs i l)
 pub ends_order : (bs : List ℕ) (i : ℕ) → IsBlock bs → i < count bs →
     (get_or (0 ∷ ends bs) i 0 ≤ get_or (ends bs) i 0) × (get_or (ends bs) i 0 ≤ length (drop (text_at bs) bs))
 ends_order bs i b l =
-    grind (arith, common_steps, ends-at 0 (length bs - text_at bs) (ends bs) i b.ends, numbers_length bs (ends_at bs) (count bs))
+    grind (arith, common_steps, end_bounds 0 (length bs - text_at bs) (ends bs) i b.ends, numbers_length bs (ends_at bs) (count bs))
 
 -- what lies between the ends of a string
 pub part_found : (bs : List ℕ) (i start end : ℕ) (r : Option (Bor (List ℕ))) → i < count bs →

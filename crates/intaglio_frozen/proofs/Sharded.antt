@@ -17,83 +17,83 @@ starts_push n [] ws = ap (λ t. t ∷ []) (omega arith)
 starts_push n (us ∷ shards) ws = grind (arith, common_steps, starts_push (n + length us) shards ws)
 
 -- the number of the first string of a shard
-pub start-at : (n : ℕ) (shards : List (List (List ℕ))) (s : ℕ) (ws : List (List ℕ)) →
+pub start_at : (n : ℕ) (shards : List (List (List ℕ))) (s : ℕ) (ws : List (List ℕ)) →
     slice_get shards s ≡ Some ws
     → slice_get (starts_from n shards) s ≡ Some (n + length (joined (take s shards)))
-start-at n [] s ws at = cc
-start-at n (us ∷ shards) zero ws at = ap Some (omega arith)
-start-at n (us ∷ shards) (suc s) ws at =
-    grind (arith, common_steps, start-at (n + length us) shards s ws at)
+start_at n [] s ws at = cc
+start_at n (us ∷ shards) zero ws at = ap Some (omega arith)
+start_at n (us ∷ shards) (suc s) ws at =
+    grind (arith, common_steps, start_at (n + length us) shards s ws at)
 
 -- the string at a place of a list, when others come behind it
-pub at-front : (xs ys : List (List ℕ)) (n : ℕ) → n < length xs → slice_get (xs ++ ys) n ≡ slice_get xs n
-at-front xs ys n below = grind (arith, common_steps, gets)
+pub at_front : (xs ys : List (List ℕ)) (n : ℕ) → n < length xs → slice_get (xs ++ ys) n ≡ slice_get xs n
+at_front xs ys n below = grind (arith, common_steps, gets)
 
 -- and of the others
-pub at-back : (xs ys : List (List ℕ)) (n : ℕ) → slice_get (xs ++ ys) (length xs + n) ≡ slice_get ys n
-at-back [] ys n = ap (slice_get ys) (omega arith)
-at-back (x ∷ xs) ys n = grind (arith, common_steps, at-back xs ys n)
+pub at_back : (xs ys : List (List ℕ)) (n : ℕ) → slice_get (xs ++ ys) (length xs + n) ≡ slice_get ys n
+at_back [] ys n = ap (slice_get ys) (omega arith)
+at_back (x ∷ xs) ys n = grind (arith, common_steps, at_back xs ys n)
 
 -- by its place among all
-pub past-front : (xs ys : List (List ℕ)) (n : ℕ) → length xs ≤ n →
+pub past_front : (xs ys : List (List ℕ)) (n : ℕ) → length xs ≤ n →
     slice_get (xs ++ ys) n ≡ slice_get ys (n - length xs)
-past-front xs ys n past = grind (arith, at-back xs ys (n - length xs))
+past_front xs ys n past = grind (arith, at_back xs ys (n - length xs))
 
 -- no string with another shard is the sought one
-pub others-differ : (shard : List ℕ → ℕ) (w : List ℕ) (vs : List (List ℕ)) →
+pub others_differ : (shard : List ℕ → ℕ) (w : List ℕ) (vs : List (List ℕ)) →
     ((i : ℕ) (v : List ℕ) → slice_get vs i ≡ Some v → shard v ≢ shard w)
     → first string_key vs (string_key w) ≡ None
-others-differ shard w [] other = refl
-others-differ shard w (v ∷ vs) other =
+others_differ shard w [] other = refl
+others_differ shard w (v ∷ vs) other =
     let unequal : string_key v ≢ string_key w = λ e. let same : v ≡ w = cc in other 0 v refl (ap shard same) in
-    rw (key_eq-unequal _ _ unequal, others-differ shard w vs (λ i u at. other (suc i) u at)) refl
+    rw (key_eq-unequal _ _ unequal, others_differ shard w vs (λ i u at. other (suc i) u at)) refl
 
 -- nor is one of shards that are all others
-pub all-differ : (shard : List ℕ → ℕ) (w : List ℕ) (shards : List (List (List ℕ)))
+pub all_differ : (shard : List ℕ → ℕ) (w : List ℕ) (shards : List (List (List ℕ)))
     → ((s : ℕ) (us : List (List ℕ)) → slice_get shards s ≡ Some us → (i : ℕ) (v : List ℕ) →
     slice_get us i ≡ Some v → shard v ≢ shard w)
     → first string_key (joined shards) (string_key w) ≡ None
-all-differ shard w [] other = refl
-all-differ shard w (us ∷ shards) other =
-    rw (first-append string_key us (joined shards), others-differ shard w us (other 0 us refl)) (rw (all-differ shard w shards (λ s vs at. other (suc s) vs at)) refl)
+all_differ shard w [] other = refl
+all_differ shard w (us ∷ shards) other =
+    rw (first-append string_key us (joined shards), others_differ shard w us (other 0 us refl)) (rw (all_differ shard w shards (λ s vs at. other (suc s) vs at)) refl)
 
 -- if the second of two places is none, the first of both is the first one, counted from 0
-or_at-none : (n : ℕ) (o : Option ℕ) → or_at n o None ≡ option_map (λ i. 0 + i) o
-or_at-none n o = grind (arith, common_steps)
+or_at_none : (n : ℕ) (o : Option ℕ) → or_at n o None ≡ option_map (λ i. 0 + i) o
+or_at_none n o = grind (arith, common_steps)
 
 -- counting a place on by m and by n is counting it on by their sum
-map-sum : (m n k : ℕ) (o : Option ℕ) → m + n ≡ k → option_map (λ i. m + i) (option_map (λ i. n + i) o)
+map_sum : (m n k : ℕ) (o : Option ℕ) → m + n ≡ k → option_map (λ i. m + i) (option_map (λ i. n + i) o)
     ≡ option_map (λ i. k + i) o
-map-sum m n k o e = grind (arith, common_steps)
+map_sum m n k o e = grind (arith, common_steps)
 
 -- a string is found in the joined shards where it is found in its shard, behind the shards before it
-pub found-in : (shard : List ℕ → ℕ) (w : List ℕ) (m : ℕ) (shards : List (List (List ℕ))) (s : ℕ)
+pub found_in : (shard : List ℕ → ℕ) (w : List ℕ) (m : ℕ) (shards : List (List (List ℕ))) (s : ℕ)
     (ws : List (List ℕ))
     → ((t : ℕ) (us : List (List ℕ)) → slice_get shards t ≡ Some us → (i : ℕ) (v : List ℕ) →
     slice_get us i ≡ Some v → shard v ≡ m + t)
     → shard w ≡ m + s → slice_get shards s ≡ Some ws
     → first string_key (joined shards) (string_key w) ≡ option_map (λ i. length (joined (take s shards)) + i)
     (first string_key ws (string_key w))
-found-in shard w m [] s ws placed is at = cc
-found-in shard w m (us ∷ shards) zero ws placed is at =
+found_in shard w m [] s ws placed is at = cc
+found_in shard w m (us ∷ shards) zero ws placed is at =
     let same : us ≡ ws = cc in
-    let rest = all-differ shard w shards (λ t vs there i v stands e. absurd (omega (arith, placed (suc t) vs there i v stands, e, is))) in
-    rw (first-append string_key us (joined shards), rest, or_at-none (length us), same) refl
-found-in shard w m (us ∷ shards) (suc s) ws placed is at =
-    let here = others-differ shard w us (λ i v stands e. absurd (omega (arith, placed 0 us refl i v stands, e, is))) in
-    let rest = found-in shard w (m + 1) shards s ws (λ t vs there i v stands. omega (arith, placed (suc t) vs there i v stands)) (omega (arith, is)) at in
-    rw (first-append string_key us (joined shards), here, rest) (map-sum _ _ _ _ (sym (length-append us (joined (take s shards)))))
+    let rest = all_differ shard w shards (λ t vs there i v stands e. absurd (omega (arith, placed (suc t) vs there i v stands, e, is))) in
+    rw (first-append string_key us (joined shards), rest, or_at_none (length us), same) refl
+found_in shard w m (us ∷ shards) (suc s) ws placed is at =
+    let here = others_differ shard w us (λ i v stands e. absurd (omega (arith, placed 0 us refl i v stands, e, is))) in
+    let rest = found_in shard w (m + 1) shards s ws (λ t vs there i v stands. omega (arith, placed (suc t) vs there i v stands)) (omega (arith, is)) at in
+    rw (first-append string_key us (joined shards), here, rest) (map_sum _ _ _ _ (sym (length-append us (joined (take s shards)))))
 
 -- shards with one more behind them have as many strings as they and the one together
-pub pushed-length : (xs : List (List (List ℕ))) (ws : List (List ℕ)) →
+pub pushed_length : (xs : List (List (List ℕ))) (ws : List (List ℕ)) →
     length (joined (xs ++ ws ∷ [])) ≡ length (joined xs) + length ws
-pushed-length xs ws = grind (arith, common_steps)
+pushed_length xs ws = grind (arith, common_steps)
 
 -- the shards up to one have its strings and those of the shards before it
 pub joined_next : (shards : List (List (List ℕ))) (s : ℕ) (ws : List (List ℕ)) →
     slice_get shards s ≡ Some ws → length (joined (take (s + 1) shards)) ≡ length (joined (take s shards))
     + length ws
-joined_next shards s ws at = rw (take_there shards s ws at) (pushed-length (take s shards) ws)
+joined_next shards s ws at = rw (take_there shards s ws at) (pushed_length (take s shards) ws)
 
 -- which are no more than all
 pub joined_front : (shards : List (List (List ℕ))) (s : ℕ) →
@@ -113,11 +113,11 @@ pub shard_read : (shards : List (List (List ℕ))) (s : ℕ) (ws : List (List �
 shard_read shards s ws below read = slice_get_read shards (length shards) s ws refl below read
 
 -- the start that is read at the number of a shard
-pub start-read : (starts : List ℕ) (shards : List (List (List ℕ))) (s n : ℕ) (ws : List (List ℕ)) →
+pub start_read : (starts : List ℕ) (shards : List (List (List ℕ))) (s n : ℕ) (ws : List (List ℕ)) →
     starts ≡ starts_from 0 shards → slice_get shards s ≡ Some ws → n ≡ get_or starts s n
     → n ≡ length (joined (take s shards))
-start-read starts shards s n ws from at read =
-    rw (from, get_or_from_slice_get _ s _ n (start-at 0 shards s ws at)) at read ∙ omega arith
+start_read starts shards s n ws from at read =
+    rw (from, get_or_from_slice_get _ s _ n (start_at 0 shards s ws at)) at read ∙ omega arith
 
 -- what is found in the shard of a string, and where in all
 module _ (shards : List (List (List ℕ))) (starts : List ℕ) (from : starts ≡ starts_from 0 shards)
@@ -130,7 +130,7 @@ module _ (shards : List (List (List ℕ))) (starts : List ℕ) (from : starts �
   found : first string_key (joined shards) (string_key w)
       ≡ option_map (λ i. length (joined (take s shards)) + i) (first string_key ws (string_key w))
   found =
-      found-in (shard_of (length shards)) w 0 shards s ws (λ t us there i v stands.
+      found_in (shard_of (length shards)) w 0 shards s ws (λ t us there i v stands.
       omega (arith, placed t us there i v stands)) (rw (← all) (omega arith)) at
 
   pub found_none : None ≡ first string_key ws (string_key w) →
@@ -138,14 +138,14 @@ module _ (shards : List (List (List ℕ))) (starts : List ℕ) (from : starts �
   found_none e = ap (option_map (λ i. length (joined (take s shards)) + i)) e ∙ sym found
 
   module _ (n i : ℕ) (begins : n ≡ get_or starts s n) (e : Some i ≡ first string_key ws (string_key w)) where
-    pub found-some : Some (n + i) ≡ first string_key (joined shards) (string_key w)
-    found-some = rw (found, ← e, start-read starts shards s n ws from at begins) refl
+    pub found_some : Some (n + i) ≡ first string_key (joined shards) (string_key w)
+    found_some = rw (found, ← e, start_read starts shards s n ws from at begins) refl
 
     pub found_below : n + i < length (joined shards)
     found_below =
         omega (
           arith,
-          start-read starts shards s n ws from at begins,
+          start_read starts shards s n ws from at begins,
           some-below (map string_key ws) (string_key w) i (sym e),
           length-map ws string_key,
           joined_next shards s ws at,
@@ -156,28 +156,28 @@ module _ (shards : List (List (List ℕ))) (starts : List ℕ) (from : starts �
 module _ (shards : List (List (List ℕ))) (s : ℕ) (ws : List (List ℕ))
     (at : slice_get shards s ≡ Some ws) where
   pub within : (n : ℕ) → n < length ws → slice_get (joined (drop s shards)) n ≡ slice_get ws n
-  within n below = rw (drop_there shards s ws at) (at-front ws (joined (drop (s + 1) shards)) n below)
+  within n below = rw (drop_there shards s ws at) (at_front ws (joined (drop (s + 1) shards)) n below)
 
   pub behind : (n : ℕ) → length ws ≤ n →
       slice_get (joined (drop s shards)) n ≡ slice_get (joined (drop (s + 1) shards)) (n - length ws)
-  behind n past = rw (drop_there shards s ws at) (past-front ws (joined (drop (s + 1) shards)) n past)
+  behind n past = rw (drop_there shards s ws at) (past_front ws (joined (drop (s + 1) shards)) n past)
 
 -- the last shard and those before it are all
-pub all-taken : (shards : List (List (List ℕ))) (s : ℕ) (ws : List (List ℕ)) → slice_get shards s ≡ Some ws →
+pub all_taken : (shards : List (List (List ℕ))) (s : ℕ) (ws : List (List ℕ)) → slice_get shards s ≡ Some ws →
     length shards ≡ s + 1 → length (joined shards) ≡ length (joined (take s shards)) + length ws
-all-taken shards s ws at last = grind (arith, common_steps, joined_next shards s ws at)
+all_taken shards s ws at last = grind (arith, common_steps, joined_next shards s ws at)
 
 -- the next string, if it belongs to the shard and if it doesn't
 module _ (count : ℕ) (strings : List (List ℕ)) (shards : List ℕ) (are : shards ≡ map (shard_of count) strings)
     (i n : ℕ) (w : List ℕ) (at : slice_get strings i ≡ Some w) where
-  shard-read-at : get_or shards i 0 ≡ shard_of count w
-  shard-read-at =
+  shard_read_at : get_or shards i 0 ≡ shard_of count w
+  shard_read_at =
       rw (are, get_or-map (shard_of count) strings i w 0 (slice_get_within strings i w at), get_or_from_slice_get strings i w w at) refl
 
   pub next_in : get_or shards i 0 ≡ n →
       shard count (take (i + 1) strings) n ≡ shard count (take i strings) n ++ w ∷ []
-  next_in is = grind (arith, common_steps, take_there strings i w at, shard-read-at)
+  next_in is = grind (arith, common_steps, take_there strings i w at, shard_read_at)
 
   pub next_out : (get_or shards i 0 ≡ n → ⊥) →
       shard count (take (i + 1) strings) n ≡ shard count (take i strings) n
-  next_out not = grind (arith, common_steps, take_there strings i w at, shard-read-at)
+  next_out not = grind (arith, common_steps, take_there strings i w at, shard_read_at)

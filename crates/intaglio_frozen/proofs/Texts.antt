@@ -9,15 +9,15 @@ use Rattle.intaglio_frozen.specs.IsFrozen.{IsBlock, AreTexts}
 use Rattle.intaglio_frozen.specs.Checked.{AreCharEnds}
 
 -- each string begins where a character does
-char-start : (text es : List ℕ) (i : ℕ) → IsUtf8 text → AreCharEnds text es → i ≤ length es →
+char_start : (text es : List ℕ) (i : ℕ) → IsUtf8 text → AreCharEnds text es → i ≤ length es →
     IsCharBoundary text (get_or (0 ∷ es) i 0)
-char-start text es zero u all l = IsCharBoundary-start text u
-char-start text es (suc i) u all l = all i (omega arith)
+char_start text es zero u all l = IsCharBoundary-start text u
+char_start text es (suc i) u all l = all i (omega arith)
 
 -- the strings of a block are UTF-8 if the whole text is, and a character ends at each end of a string
-pub texts-between : (bs : List ℕ) → IsBlock bs → IsUtf8 (drop (text_at bs) bs) →
+pub texts_between : (bs : List ℕ) → IsBlock bs → IsUtf8 (drop (text_at bs) bs) →
     AreCharEnds (drop (text_at bs) bs) (ends bs) → AreTexts (strings bs)
-texts-between bs block u all = λ i w at.
+texts_between bs block u all = λ i w at.
     let text = drop (text_at bs) bs in
     let below : i < count bs = omega (arith, slice_get_within (strings bs) i w at, strings_length bs) in
     let within : i < length (ends bs) = omega (arith, below, numbers_length bs (ends_at bs) (count bs)) in
@@ -27,4 +27,4 @@ texts-between bs block u all = λ i w at.
     let same : slice_range text start end ≡ w = cc in
     subst IsUtf8 same
     (IsUtf8-between text start end u (ends_order bs i block below).0
-    (char-start text (ends bs) i u all (omega (arith, within))) (all i within))
+    (char_start text (ends bs) i u all (omega (arith, within))) (all i within))

@@ -1,7 +1,7 @@
 use Rattle.std.proofs.Common.{◌≡◌, get_or, rules}
 use Rattle.std.proofs.lemmas.Option.{slice_get_within, get_or_from_slice_get}
 use Rattle.intaglio_frozen.specs.LookUp.{hash_under}
-use Rattle.intaglio_frozen.proofs.Batched.{found-more}
+use Rattle.intaglio_frozen.proofs.Batched.{found_more}
 use Rattle.intaglio_frozen.proofs.hashing.hashes.Goals as goal
 
 pub loop-i-preserved : goal.loop-i-preserved
@@ -12,7 +12,7 @@ loop-i-preserved g c =
     let f = hash_under c.args.key0 c.args.key1 in
     let at : get_or ws i w ≡ w = get_or_from_slice_get ws i w w c.string.ensures in
     record {
-      hashes = found-more ws i f w _ _ _ (slice_get_within ws i w c.string.ensures) c.loop-i.invariant.hashes
+      hashes = found_more ws i f w _ _ _ (slice_get_within ws i w c.string.ensures) c.loop-i.invariant.hashes
           c.push_reserved.ensures.items (rw (at, ← c.with_keys-state.ensures) c.hash_by.ensures);
       count = search rules;
       room = search rules;

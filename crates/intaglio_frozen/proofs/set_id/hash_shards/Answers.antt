@@ -4,7 +4,7 @@ use Rattle.std.specs.List.{flat_map}
 use Rattle.std.specs.Hash.DefaultHasher.{with_keys, write}
 use Rattle.intaglio_frozen.specs.declared.id.DictionaryId.{DictionaryId}
 use Rattle.intaglio_frozen.specs.SetId.{first_kind, number_bytes, shard_bytes}
-use Rattle.intaglio_frozen.proofs.Hashed.{last_item, next-item, written-behind}
+use Rattle.intaglio_frozen.proofs.Hashed.{last_item, next_item, written_behind}
 use Rattle.intaglio_frozen.proofs.set_id.hash_shards.Goals as goal
 
 abbrev none : DictionaryId
@@ -14,7 +14,7 @@ pub loop-id-init : goal.loop-id-init
 loop-id-init c =
     let ids = c.args.ids.now in
     let begin = number_bytes (length ids) ++ number_bytes (first_kind ids) in
-    written-behind (with_keys 2 c.args.key) c.write_two.new.hasher begin (flat_map shard_bytes ids)
+    written_behind (with_keys 2 c.args.key) c.write_two.new.hasher begin (flat_map shard_bytes ids)
     (c.write_two.ensures
     ∙ ap (λ k. write c.with_keys-hasher.result (number_bytes (length ids) ++ number_bytes k)) c.first_kind.ensures
     ∙ ap (λ h. write h begin) c.with_keys-hasher.ensures)
@@ -24,9 +24,9 @@ loop-id-preserved c =
     let h = c.loop-id.hasher in
     let id = get_or c.args.ids.now c.loop-id.id-index none in
     let written = c.write_two-in-loop-id.ensures
-    ∙ written-behind h c.write.new.self (number_bytes id.count) (number_bytes id.hash0 ++ number_bytes id.hash1)
+    ∙ written_behind h c.write.new.self (number_bytes id.count) (number_bytes id.hash0 ++ number_bytes id.hash1)
     (c.write.ensures ∙ ap (write h) c.to_le_bytes.ensures) in
-    next-item shard_bytes h c.write_two-in-loop-id.new.hasher c.loop-id.id-index none c.args.ids.now
+    next_item shard_bytes h c.write_two-in-loop-id.new.hasher c.loop-id.id-index none c.args.ids.now
     (omega (arith, c.loop-id-test.true)) written ∙ c.loop-id.invariant
 
 pub returns : goal.returns

@@ -3,7 +3,7 @@ use Rattle.std.proofs.Common.{◌≡◌, ◌∙◌, ◌<◌, [], ◌∷◌, ◌+
 use Rattle.std.proofs.lemmas.List.{length-map, length-set}
 use Rattle.std.proofs.lemmas.Option.{slice_get-get_or}
 use Rattle.intaglio_frozen.specs.Shards.{shard_of}
-use Rattle.intaglio_frozen.proofs.Numbered.{HavePlaces, so_far, far-few, far-in, far_length, far-out, last_places, places-in, places-out}
+use Rattle.intaglio_frozen.proofs.Numbered.{HavePlaces, so_far, far_few, far_in, far_length, far_out, last_places, places_in, places_out}
 use Rattle.intaglio_frozen.proofs.sharding.number_shard.Goals as goal
 use Rattle.intaglio_frozen.proofs.sharding.number_shard.Goals.{then-number-shards, else-number-shards}
 
@@ -17,8 +17,8 @@ overflow_add-next g c =
     let at =
     slice_get-get_or strings place [] (omega (arith, ap length c.requires.shards, length-map strings (shard_of c.args._count))) in
     let next =
-    far-in c.args._count strings shards c.requires.shards number place w at (sym c.if-number-shards.true) in
-    omega (arith, far-few c.args._count strings shards c.requires.shards number (place + 1), ap length next, length-append (so_far c.args._count strings number place) (w ∷ []))
+    far_in c.args._count strings shards c.requires.shards number place w at (sym c.if-number-shards.true) in
+    omega (arith, far_few c.args._count strings shards c.requires.shards number (place + 1), ap length next, length-append (so_far c.args._count strings number place) (w ∷ []))
 
 pub loop-place-preserved : goal.loop-place-preserved
 loop-place-preserved g c =
@@ -35,8 +35,8 @@ loop-place-preserved g c =
     elim c.if-number-shards.branch [
       | then-number-shards t ↦
           let is : get_or shards place 0 ≡ number = sym t.if-number-shards.true in
-          let longer = far-in count strings shards c.requires.shards number place w at is in
-          let placed = places-in count strings shards c.requires.shards number place w at c.loop-place.numbers
+          let longer = far_in count strings shards c.requires.shards number place w at is in
+          let placed = places_in count strings shards c.requires.shards number place w at c.loop-place.numbers
           t.new.result is (t.new.ensures ∙ c.loop-place.invariant.next)
           (omega (arith, within, c.loop-place.invariant.len, c.requires.len)) c.loop-place.invariant.places in
           record {
@@ -47,12 +47,12 @@ loop-place-preserved g c =
           }
       | else-number-shards t ↦
           let isnt : get_or shards place 0 ≡ number → ⊥ = λ e. t.if-number-shards.false (sym e) in
-          let same = far-out count strings shards c.requires.shards number place w at isnt in
+          let same = far_out count strings shards c.requires.shards number place w at isnt in
           record {
             next = t.next-is ∙ c.loop-place.invariant.next ∙ sym (ap length same);
             places =
                 subst (HavePlaces count strings shards number (place + 1)) (sym t.numbers-is)
-                (places-out count strings shards c.requires.shards number place w at c.loop-place.numbers isnt
+                (places_out count strings shards c.requires.shards number place w at c.loop-place.numbers isnt
                 c.loop-place.invariant.places);
             len = ap length t.numbers-is ∙ c.loop-place.invariant.len;
           }

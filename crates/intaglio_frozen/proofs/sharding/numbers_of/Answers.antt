@@ -1,7 +1,7 @@
 use Rattle.std.proofs.Common.{◌≡◌, ◌∙◌, ap, arith, length, subst}
 use Rattle.std.proofs.lemmas.List.{length-map}
 use Rattle.intaglio_frozen.specs.Shards.{AreNumbered, first_shards, joined, shard_of}
-use Rattle.intaglio_frozen.proofs.Numbered.{numbered-map}
+use Rattle.intaglio_frozen.proofs.Numbered.{numbered_map}
 use Rattle.intaglio_frozen.proofs.sharding.numbers_of.Goals as goal
 
 pub returns : goal.returns
@@ -14,7 +14,7 @@ returns g c =
     ap length c.requires.shards ∙ length-map strings (shard_of count) in
     let done : c.loop-number.number ≡ count =
     omega (arith, c.loop-number-test.false, c.loop-number.auto.number-end) in
-    numbered-map count strings shards numbers (c.loop-number.invariant.len ∙ same) (λ i within.
+    numbered_map count strings shards numbers (c.loop-number.invariant.len ∙ same) (λ i within.
     c.requires.below i (omega (arith, within, same)))
     (subst (λ n. AreNumbered strings shards (joined (first_shards count strings n)) n numbers) done
     c.loop-number.invariant.numbered)

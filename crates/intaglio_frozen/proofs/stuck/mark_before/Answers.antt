@@ -2,7 +2,7 @@ use Rattle.std.proofs.lemmas.Grind.{common_steps}
 use Rattle.std.proofs.Common.{◌∙◌, ℕ, ap, get_or, length, length-set, subst, sym, arith}
 use Rattle.intaglio_frozen.specs.Stuck.{IsBefore, place_under}
 use Rattle.intaglio_frozen.specs.Marks.{AreMarked}
-use Rattle.intaglio_frozen.proofs.Marked.{marked-more}
+use Rattle.intaglio_frozen.proofs.Marked.{marked_more}
 use Rattle.intaglio_frozen.proofs.stuck.mark_before.Goals.{then-is_before, else-is_before}
 use Rattle.intaglio_frozen.proofs.stuck.mark_before.Goals as goal
 
@@ -21,7 +21,7 @@ loop-i-preserved c =
           record {
             len = ap (λ xs. length xs) w.marks-is ∙ length-set marks at 0xffff_ffff ∙ old.len;
             marked = subst (λ xs. AreMarked hs ps g xs 0) (sym w.marks-is)
-                (marked-more hs ps g marks 0 at i (omega (arith, w.place_under.ensures.below, old.len, c.requires.marks))
+                (marked_more hs ps g marks 0 at i (omega (arith, w.place_under.ensures.below, old.len, c.requires.marks))
                 (record {
                   there = c.loop-i-test.true;
                   before = subst (λ f. IsBefore hs f g) other

@@ -1,7 +1,7 @@
 use Rattle.std.proofs.Common.{◌≡◌, ℕ, [], get_or, Option, None, Some, sym, ◌∙◌}
 use Rattle.std.proofs.lemmas.Bool.{eqb-true, eqb-false}
 use Rattle.std.proofs.lemmas.Option.{slice_get-get_or}
-use Rattle.intaglio_frozen.proofs.Found.{found-same, found-other}
+use Rattle.intaglio_frozen.proofs.Found.{found_same, found_other}
 use Rattle.intaglio_frozen.specs.Layout.{strings}
 use Rattle.intaglio_frozen.specs.LookUp.{find}
 use Rattle.intaglio_frozen.proofs.block.Block.is_at.Goals as goal
@@ -12,7 +12,7 @@ returns-in-Some-clause-found c =
     let s = c.in-Some.symbol in
     let hash = rw (← c.self.view_is) at c.requires.hash in
     rw (← c.self.view_is) (λ same w is.
-    found-same bs w s c.args.i is (c.in-Some.ensures c.self.invariant.0 w (hash w is))
+    found_same bs w s c.args.i is (c.in-Some.ensures c.self.invariant.0 w (hash w is))
     (eqb-true s c.args.i same))
 
 pub returns-in-Some-clause-not_found : goal.returns-in-Some-clause-not_found
@@ -28,7 +28,7 @@ returns-in-Some-clause-not_found c =
       (
         w,
         is,
-        found-other bs w s c.args.i
+        found_other bs w s c.args.i
             (c.in-Some.ensures c.self.invariant.0 w (hash w is)) (eqb-false s c.args.i differs),
       ),
     ))

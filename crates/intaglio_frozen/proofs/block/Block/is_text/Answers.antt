@@ -1,6 +1,6 @@
 use Rattle.std.proofs.Common.{◌≡◌, drop, ◌∙◌}
 use Rattle.std.specs.Str.{IsUtf8}
-use Rattle.intaglio_frozen.proofs.Texts.{texts-between}
+use Rattle.intaglio_frozen.proofs.Texts.{texts_between}
 use Rattle.intaglio_frozen.specs.Layout.{text_at}
 use Rattle.intaglio_frozen.proofs.block.Block.is_text.Goals as goal
 
@@ -12,4 +12,4 @@ returns c = λ h.
     let is : c.in-Ok.text.now ≡ drop (text_at bs) bs = c.in-Ok.ensures.cases.0 ∙ text in
     let utf8 : IsUtf8 (drop (text_at bs) bs) = rw text at c.in-Ok.ensures.cases.1 in
     let ends = rw (is, ← c.self.view_is) at (c.has_char_ends.ensures h) in
-    rw (← c.self.view_is) (texts-between bs c.self.invariant.1 utf8 ends)
+    rw (← c.self.view_is) (texts_between bs c.self.invariant.1 utf8 ends)

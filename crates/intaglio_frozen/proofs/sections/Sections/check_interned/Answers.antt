@@ -1,5 +1,5 @@
 use Rattle.std.proofs.Common.{◌∙◌}
-use Rattle.intaglio_frozen.proofs.Found.{find-is-first}
+use Rattle.intaglio_frozen.proofs.Found.{find_is_first}
 use Rattle.intaglio_frozen.proofs.sections.Sections.check_interned.Goals as goal
 
 pub returns-clause-frozen : goal.returns-clause-frozen
@@ -7,4 +7,4 @@ returns-clause-frozen c = λ are frozen.
     let is = c.in_ok-reader.ensures in
     let found = rw (is.bytes, is.sections) at c.check_hashed.ensures.block in
     let hashed = rw (is.bytes, is.sections) at c.hash.ensures in
-    found are frozen.block (hashed are) ∙ find-is-first c.args.bytes.now c.args.string.now frozen.found
+    found are frozen.block (hashed are) ∙ find_is_first c.args.bytes.now c.args.string.now frozen.found

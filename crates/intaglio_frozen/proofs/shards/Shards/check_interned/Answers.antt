@@ -1,6 +1,6 @@
 use Rattle.std.proofs.lemmas.Grind.{common_steps}
 use Rattle.std.proofs.Common.{◌∙◌, Some, ap, arith, sym}
-use Rattle.intaglio_frozen.proofs.Sharded.{found_below, found_none, found-some, starts_length}
+use Rattle.intaglio_frozen.proofs.Sharded.{found_below, found_none, found_some, starts_length}
 use Rattle.intaglio_frozen.proofs.shards.Shards.check_interned.Goals as goal
 
 pub index-requires-in-Some : goal.index-requires-in-Some
@@ -11,7 +11,7 @@ overflow_add-index c = grind (arith, common_steps, found_below)
 
 pub returns-in-Some : goal.returns-in-Some
 returns-in-Some c =
-    let found = found-some c.self.inside.tables.items c.self.inside.starts.items c.self.invariant.starts
+    let found = found_some c.self.inside.tables.items c.self.inside.starts.items c.self.invariant.starts
     c.self.invariant.placed c.args.string.now c.len.result c.shard_of-shard.result
     c.index.result.now (omega (arith, c.len.ensures, c.self.inside.tables.ok.0))
     c.shard_of-shard.ensures.value c.shard_of-shard.ensures.below c.index.ensures

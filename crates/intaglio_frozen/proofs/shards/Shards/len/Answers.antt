@@ -1,7 +1,7 @@
 use Rattle.std.proofs.lemmas.Grind.{common_steps}
 use Rattle.std.proofs.Common.{◌≡◌, ◌-◌, ◌+◌, Some, ap, arith, length, slice_get}
 use Rattle.intaglio_frozen.specs.Shards.{joined}
-use Rattle.intaglio_frozen.proofs.Sharded.{all-taken, shard_read, start-read, starts_length}
+use Rattle.intaglio_frozen.proofs.Sharded.{all_taken, shard_read, start_read, starts_length}
 use Rattle.intaglio_frozen.proofs.shards.Shards.len.Goals as goal
 
 pub index-requires : goal.index-requires
@@ -15,10 +15,10 @@ count c =
     let ws = c.index-2.result.now in
     let at : slice_get shards last ≡ Some ws = grind (arith, common_steps, shard_read) in
     let start =
-    start-read c.self.inside.starts.items shards last c.index.result.now ws
+    start_read c.self.inside.starts.items shards last c.index.result.now ws
     c.self.invariant.starts at c.index.ensures in
     let all =
-    all-taken shards last ws at (omega arith) in
+    all_taken shards last ws at (omega arith) in
     omega (arith, start, c.len.ensures.count, all)
 
 pub returns-clause-count : goal.returns-clause-count
