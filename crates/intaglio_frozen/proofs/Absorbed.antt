@@ -1,9 +1,9 @@
 -- What stands at the symbols that strings are given, one list after the other.
 use Rattle.std.proofs.lemmas.Grind.{common_steps}
-use Rattle.std.proofs.Common.{◌≡◌, ◌∙◌, ℕ, ◌<◌, List, [], ◌∷◌, ◌++◌, length, map, take, drop, refl, sym, ap, subst, Some, arith, append-nil, Result, Ok, Err, IfOk, OnOk}
+use Rattle.std.proofs.Common.{◌≡◌, ◌∙◌, ℕ, ◌<◌, List, [], ◌∷◌, ◌++◌, length, take, drop, refl, sym, ap, subst, Some, arith, Result, Ok, Err, IfOk, OnOk}
 use Rattle.std.specs.List.{flat_map}
 use Rattle.std.specs.Prelude.{slice_get}
-use Rattle.std.proofs.lemmas.List.{map-append, take-append-drop}
+use Rattle.std.proofs.lemmas.List.{take-append-drop}
 use Rattle.std.proofs.lemmas.Grind.{flat_map-append}
 use Rattle.intaglio_content.specs.Key.{Key}
 use Rattle.intaglio_symbol.specs.declared.error.InternError.{InternError}
@@ -12,7 +12,11 @@ use Rattle.intaglio_interner.specs.Batch.{IfOverflow}
 use Rattle.intaglio_interner.specs.Issue.{issued, interned, issue_from, interned_all}
 use Rattle.intaglio_interner.proofs.Held.{content-still, interned_all-append, interned_all-longer}
 use Rattle.intaglio_interner.proofs.Laws.{first-key, issued-found, mapped-some}
-use Rattle.intaglio_frozen.specs.Merging.{decode, string_key, union, AreKeys, AreMaps, IsMap}
+use Rattle.intaglio_frozen.specs.Merging.{string_key, union, AreKeys, AreMaps, IsMap}
+use Rattle.intaglio_interner.proofs.Room.{bytes-none, grows-none}
+
+-- what grows where nothing was interned
+pub ruleset none_grows = (bytes-none, grows-none)
 
 -- a string stands at its symbol
 issued_there : (held : List (List ℕ)) (w : List ℕ) →

@@ -1,12 +1,11 @@
 -- What is found of strings, batch by batch.
-use Rattle.std.proofs.Common.{◌≡◌, ◌∙◌, ◌⊎◌, inl, inr, ℕ, ◌+◌, ◌-◌, ◌<◌, ◌≤◌, List, ◌++◌, length, map, slice_get, Some, ap, arith}
+use Rattle.std.proofs.Common.{◌≡◌, ◌∙◌, ◌⊎◌, inl, inr, ℕ, ◌+◌, ◌-◌, ◌<◌, ◌≤◌, List, ◌++◌, length, map, slice_get, Some, arith}
 use Rattle.std.proofs.lemmas.Bool.{cases_lt}
-use Rattle.std.proofs.lemmas.List.{get_or-map}
 use Rattle.std.proofs.lemmas.Grind.{common_steps}
-use Rattle.std.proofs.lemmas.Option.{gets, slice_get_within, get_or_from_slice_get}
+use Rattle.std.proofs.lemmas.Option.{gets, slice_get_within}
 use Rattle.intaglio_frozen.specs.Layout.{key0, key1, strings}
-use Rattle.intaglio_frozen.specs.LookUp.{hash, hash_under, find, FindsAll}
-use Rattle.intaglio_frozen.specs.Checked.{IsFoundAt, AreFoundBelow, AreFoundFrom, AreHashesFrom}
+use Rattle.intaglio_frozen.specs.LookUp.{hash, hash_under, FindsAll}
+use Rattle.intaglio_frozen.specs.Checked.{AreFoundBelow, AreFoundFrom, AreHashesFrom}
 
 -- those before, and a batch
 pub found_further : (bs : List ℕ) (start n : ℕ) → AreFoundBelow bs start → AreFoundFrom bs start n →

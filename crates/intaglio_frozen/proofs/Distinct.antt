@@ -1,9 +1,8 @@
 -- Strings that are interned in order, and are all new, are distinct.
 use Rattle.std.proofs.lemmas.Grind.{common_steps}
-use Rattle.std.proofs.Common.{zero, suc, get_or, ◌≡◌, ◌∙◌, ℕ, ◌+◌, ◌<◌, ◌≤◌, List, [], ◌∷◌, ◌++◌, length, map, take, slice_get, Option, Some, None, MatchOption, Result, Ok, refl, sym, ap, arith}
+use Rattle.std.proofs.Common.{get_or, ◌≡◌, ◌∙◌, ℕ, ◌+◌, ◌<◌, ◌≤◌, List, [], ◌∷◌, ◌++◌, length, map, take, slice_get, Option, Some, None, MatchOption, Result, Ok, refl, sym, ap, arith}
 use Rattle.std.proofs.lemmas.List.{length-map}
-use Rattle.std.proofs.lemmas.Grind.{take_at_read}
-use Rattle.std.proofs.lemmas.Option.{gets, slice_get_within, get_or_from_slice_get, slice_get-get_or}
+use Rattle.std.proofs.lemmas.Option.{gets, slice_get_within, slice_get-get_or}
 use Rattle.intaglio_interner.proofs.First.{some-below}
 use Rattle.intaglio_interner.specs.Change.{InternsForm, InternsNewForm}
 use Rattle.intaglio_interner.specs.Lookup.{IsStored, Keeps}

@@ -5,9 +5,8 @@ use Rattle.std.specs.List.{concat, flat_map}
 use Rattle.std.specs.Int.{w32, to_le_bytes}
 use Rattle.std.specs.Hash.DefaultHasher.{write, write_byte}
 use Rattle.std.specs.declared.hash.DefaultHasher.{DefaultHasher}
-use Rattle.std.proofs.lemmas.List.{drop_all, drop_more}
+use Rattle.std.proofs.lemmas.List.{drop_more}
 use Rattle.std.proofs.lemmas.List.Sums.{fold-append}
-use Rattle.std.proofs.lemmas.Option.{slice_get_within, get_or_from_slice_get}
 use Rattle.intaglio_frozen.proofs.HashedAhead.{drop_there}
 use Rattle.intaglio_frozen.specs.Id.{end_behind, end_bytes}
 

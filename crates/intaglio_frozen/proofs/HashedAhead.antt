@@ -1,10 +1,10 @@
 -- Numbers of strings, one beside each: what holds of those so far, and of one more.
-use Rattle.std.proofs.Common.{◌≡◌, ℕ, ◌+◌, ◌<◌, ◌≤◌, ◌⊎◌, inl, inr, List, [], ◌∷◌, ◌++◌, length, map, take, drop, refl, sym, ap, subst, ◌∙◌, append_assoc, length-drop, arith, Some}
+use Rattle.std.proofs.Common.{◌≡◌, ℕ, ◌+◌, ◌<◌, ◌≤◌, ◌⊎◌, inl, inr, List, [], ◌∷◌, ◌++◌, length, map, take, drop, sym, ap, ◌∙◌, append_assoc, arith, Some}
 use Rattle.std.proofs.lemmas.Grind.{common_steps}
 use Rattle.std.specs.Prelude.{slice_get}
 use Rattle.std.proofs.Math.ListN.{get_or, set}
 use Rattle.std.proofs.lemmas.Bool.{cases_lt}
-use Rattle.std.proofs.lemmas.List.{take_all, take_more, take_more_set, take-append-drop, drop_more, drop_all, get_or-drop, map_push, get_or-set_same, length-set}
+use Rattle.std.proofs.lemmas.List.{take_all, take_more_set, take-append-drop, drop_more, drop_all, map_push}
 use Rattle.std.proofs.lemmas.Option.{gets}
 use Rattle.intaglio_frozen.specs.Ahead.{AreFirst}
 

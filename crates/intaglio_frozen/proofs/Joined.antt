@@ -1,8 +1,7 @@
 -- Maps of shards, as one map.
 use Rattle.std.proofs.lemmas.Grind.{common_steps}
-use Rattle.std.proofs.Common.{◌≡◌, ◌∙◌, ℕ, ◌+◌, ◌<◌, List, [], ◌∷◌, ◌++◌, length, map, append-nil, append_assoc, Some, refl, sym, ap, arith}
+use Rattle.std.proofs.Common.{◌≡◌, ◌∙◌, ℕ, ◌+◌, ◌<◌, List, [], ◌∷◌, ◌++◌, length, map, append-nil, Some, refl, ap, arith}
 use Rattle.std.specs.Prelude.{slice_get}
-use Rattle.std.proofs.lemmas.List.{map-append}
 use Rattle.std.proofs.lemmas.Option.{slice_get_within}
 use Rattle.intaglio_frozen.specs.Merging.{decode, IsMap}
 use Rattle.intaglio_frozen.specs.Laws.{ShardMapsJoin}
@@ -54,3 +53,5 @@ map-push n counts maps count numbers same = absurd (omega (arith, same))
 -- the maps of shards, as one map, lead from all strings of the shards to all those of the others
 pub maps-join : ShardMapsJoin
 maps-join olds news maps are = behind_front [] olds news maps are
+
+pub ruleset shard_maps = (maps-join)

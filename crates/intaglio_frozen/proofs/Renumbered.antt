@@ -1,12 +1,12 @@
 -- What merging and renumbering keep.
 use Rattle.std.proofs.lemmas.Grind.{common_steps}
-use Rattle.std.proofs.Common.{◌≡◌, ◌∙◌, ℕ, zero, suc, ◌+◌, ◌<◌, ◌≤◌, Bool, true, false, cond, List, [], ◌∷◌, ◌++◌, length, map, get_or, refl, sym, ap, subst, inl, inr, Option, Some, None, option_map, unwrap_or, is_some, arith}
+use Rattle.std.proofs.Common.{◌≡◌, ◌∙◌, ℕ, zero, suc, ◌+◌, ◌<◌, ◌≤◌, Bool, true, false, cond, List, [], ◌∷◌, ◌++◌, length, map, get_or, refl, ap, Some, is_some, arith}
 use Rattle.std.specs.Prelude.{slice_get}
 use Rattle.std.proofs.lemmas.Grind.{flat_map-append}
 use Rattle.std.proofs.lemmas.Option.{gets, slice_get_past}
 use Rattle.intaglio_content.specs.Key.{Key}
-use Rattle.intaglio_interner.specs.State.{first, key_eq, Distinct}
-use Rattle.intaglio_interner.specs.Issue.{issued, interned, interned_all}
+use Rattle.intaglio_interner.specs.State.{first, Distinct}
+use Rattle.intaglio_interner.specs.Issue.{interned, interned_all}
 use Rattle.intaglio_interner.proofs.First.{key_eq-decides}
 use Rattle.intaglio_interner.proofs.Held.{first-still, interned_all-append}
 use Rattle.intaglio_interner.proofs.Laws.{issued-found}

@@ -15,6 +15,7 @@ use crate::list::first_fault;
 const BATCH: usize = 32;
 
 // The first string that isn't found at its symbol.
+#[tactic(auto, using(std::proofs::lemmas::Grind::common_steps, std::proofs::lemmas::Option::slice_get_within))]
 pub(crate) fn first_not_found(block: &Block<'_>) -> Option<u32>
     ensures { MatchOption result (FindsAll block.now) (λ i. IsFault block.now (NotFound i)) }
 {

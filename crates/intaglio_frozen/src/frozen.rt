@@ -116,6 +116,7 @@ impl<'a> Frozen<'a> {
     }
 
     // As `strings`, with what holds of them.
+    #[tactic(auto, using(std::proofs::lemmas::Grind::common_steps, crate::proofs::Found::all_distinct))]
     pub(crate) fn distinct_strings(&self) -> FrozenStrings<'a>
         ensures all { result ≡ self.now }
         ensures distinct { AreDistinct (map (λ w. w ∷ []) self.now) }

@@ -106,6 +106,7 @@ pub fn sharding_law()
 
 /// The maps of the shards of one dictionary to those of another are together one map, where the numbers of a
 /// shard are counted on from the end of the shards before it.
+#[tactic(auto, using(crate::proofs::Joined::shard_maps))]
 pub fn joining_law()
     ensures { ShardMapsJoin }
 {

@@ -50,6 +50,7 @@ impl SetId {
 }
 
 // The hash of what shards are, under 2 and another key.
+#[tactic(auto, using(std::proofs::lemmas::Grind::common_steps, crate::proofs::Hashed::last_item))]
 fn hash_shards(key: u64, ids: &[DictionaryId]) -> u64
     ensures { result ≡ finish (write (with_keys 2 key) (shards_bytes ids.now)) }
 {
@@ -73,6 +74,7 @@ fn first_kind(ids: &[DictionaryId]) -> u32
 }
 
 // The hash of a merge of parts of these sets under 3 and another key.
+#[tactic(auto, using(std::proofs::lemmas::Grind::common_steps, crate::proofs::Hashed::last_item))]
 fn hash_sets(key: u64, shards: u32, sets: &[SetId]) -> u64
     ensures { result ≡ finish (write (with_keys 3 key) (merge_bytes shards sets.now)) }
 {

@@ -1,6 +1,5 @@
 use Rattle.std.proofs.lemmas.Grind.{common_steps}
 use Rattle.std.proofs.Common.{◌≡◌, ◌++◌, length, take, drop, arith}
-use Rattle.std.proofs.lemmas.Option.{slice_get_within}
 use Rattle.intaglio_frozen.proofs.Checked.{found_further}
 use Rattle.intaglio_frozen.proofs.checking.first_not_found.Goals as goal
 
@@ -21,6 +20,3 @@ returns-in-Some c =
     let found =
     found_further c.args.block.now c.loop-start.start first.0 c.loop-start.invariant.found first.2 in
     (c.in-Some.ensures.0, rw (← first.1) at found, first.3)
-
-pub returns : goal.returns
-returns c = grind (arith, common_steps, slice_get_within)

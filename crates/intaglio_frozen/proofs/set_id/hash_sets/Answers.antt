@@ -1,9 +1,8 @@
-use Rattle.std.proofs.lemmas.Grind.{common_steps}
 use Rattle.std.proofs.Common.{◌∙◌, ◌++◌, length, ap, arith}
 use Rattle.std.specs.List.{flat_map}
 use Rattle.std.specs.Hash.DefaultHasher.{with_keys, write}
 use Rattle.intaglio_frozen.specs.SetId.{number_bytes, set_bytes}
-use Rattle.intaglio_frozen.proofs.Hashed.{last_item, next_item, written_behind}
+use Rattle.intaglio_frozen.proofs.Hashed.{next_item, written_behind}
 use Rattle.intaglio_frozen.proofs.set_id.hash_sets.Goals as goal
 
 pub loop-set-init : goal.loop-set-init
@@ -19,6 +18,3 @@ loop-set-preserved c =
     next_item set_bytes c.loop-set.hasher c.write_two-in-loop-set.new.hasher c.loop-set.set-index
     (record { hash0 = 0; hash1 = 0 }) c.args.sets.now (omega (arith, c.loop-set-test.true))
     c.write_two-in-loop-set.ensures ∙ c.loop-set.invariant
-
-pub returns : goal.returns
-returns c = grind (arith, common_steps, last_item)

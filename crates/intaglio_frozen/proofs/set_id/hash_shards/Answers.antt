@@ -1,10 +1,9 @@
-use Rattle.std.proofs.lemmas.Grind.{common_steps}
 use Rattle.std.proofs.Common.{◌∙◌, ◌++◌, length, get_or, ap, false, arith}
 use Rattle.std.specs.List.{flat_map}
 use Rattle.std.specs.Hash.DefaultHasher.{with_keys, write}
 use Rattle.intaglio_frozen.specs.declared.id.DictionaryId.{DictionaryId}
 use Rattle.intaglio_frozen.specs.SetId.{first_kind, number_bytes, shard_bytes}
-use Rattle.intaglio_frozen.proofs.Hashed.{last_item, next_item, written_behind}
+use Rattle.intaglio_frozen.proofs.Hashed.{next_item, written_behind}
 use Rattle.intaglio_frozen.proofs.set_id.hash_shards.Goals as goal
 
 abbrev none : DictionaryId
@@ -28,6 +27,3 @@ loop-id-preserved c =
     (c.write.ensures ∙ ap (write h) c.to_le_bytes.ensures) in
     next_item shard_bytes h c.write_two-in-loop-id.new.hasher c.loop-id.id-index none c.args.ids.now
     (omega (arith, c.loop-id-test.true)) written ∙ c.loop-id.invariant
-
-pub returns : goal.returns
-returns c = grind (arith, common_steps, last_item)

@@ -1,13 +1,6 @@
-use Rattle.std.proofs.lemmas.Grind.{common_steps}
 use Rattle.std.proofs.Common.{◌∙◌, Some, ap, arith, sym}
-use Rattle.intaglio_frozen.proofs.Sharded.{found_below, found_none, found_some, starts_length}
+use Rattle.intaglio_frozen.proofs.Sharded.{found_some}
 use Rattle.intaglio_frozen.proofs.shards.Shards.check_interned.Goals as goal
-
-pub index-requires-in-Some : goal.index-requires-in-Some
-index-requires-in-Some c = grind (arith, common_steps, starts_length)
-
-pub overflow_add-index : goal.overflow_add-index
-overflow_add-index c = grind (arith, common_steps, found_below)
 
 pub returns-in-Some : goal.returns-in-Some
 returns-in-Some c =
@@ -18,6 +11,3 @@ returns-in-Some c =
     c.index-in-Some.result.now c.id.result c.index-in-Some.ensures (ap Some c.id.ensures ∙ sym c.in-Some.is
     ∙ c.check_interned.ensures.value) in
     rw (← c.self.view_is) (ap Some c.new.ensures ∙ found)
-
-pub returns-in-None : goal.returns-in-None
-returns-in-None c = grind (arith, common_steps, found_none)

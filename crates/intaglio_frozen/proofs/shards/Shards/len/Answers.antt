@@ -1,11 +1,8 @@
 use Rattle.std.proofs.lemmas.Grind.{common_steps}
 use Rattle.std.proofs.Common.{◌≡◌, ◌-◌, ◌+◌, Some, ap, arith, length, slice_get}
 use Rattle.intaglio_frozen.specs.Shards.{joined}
-use Rattle.intaglio_frozen.proofs.Sharded.{all_taken, shard_read, start_read, starts_length}
+use Rattle.intaglio_frozen.proofs.Sharded.{all_taken, shard_read, start_read}
 use Rattle.intaglio_frozen.proofs.shards.Shards.len.Goals as goal
-
-pub index-requires : goal.index-requires
-index-requires c = grind (arith, common_steps, starts_length)
 
 -- the last shard ends where all end
 count : (c : goal.After-len) → c.index.result.now + c.len.result ≡ length (joined c.self.inside.tables.items)
