@@ -39,10 +39,8 @@ pub again : (ws : List (List ℕ)) (old new : State (List ℕ)) (i s : ℕ) (w :
     → Keeps key old new → IsStored key new (key w) s → AreEqual ws s i
 again ws old new i s w held at below kept stored =
     let v = get_or ws s [] in
-    let there : slice_get ws s ≡ Some v =
-    slice_get-get_or ws s [] (omega (arith, below, slice_get_within ws i w at)) in
-    let before : slice_get old.contents s ≡ Some v =
-    ap (λ t. slice_get t s) held ∙ slice_get_take ws i s below ∙ there in
+    let there = slice_get-get_or ws s [] (omega (arith, below, slice_get_within ws i w at)) in
+    let before : slice_get old.contents s ≡ Some v = rw (held, slice_get_take ws i s below) there in
     let after : Some v ≡ Some stored.content = sym (kept.stored s v before) ∙ stored.stands in
     let keys : key stored.content ≡ key w = stored.same_key in
     let same : v ≡ w = cc in

@@ -1,8 +1,7 @@
 -- What look-ups find, where each text is found at its position.
 use Rattle.std.proofs.lemmas.Grind.{common_steps}
-use Rattle.std.proofs.Common.{◌≡◌, ℕ, suc, ◌+◌, ◌*◌, ◌%◌, ◌<◌, ◌==◌, Bool, true, false, cond, List, [], ◌∷◌, length, get_or, slice_get, Option, Some, None, map, refl, sym, ap, ◌∙◌, arith}
+use Rattle.std.proofs.Common.{◌≡◌, ℕ, suc, ◌+◌, ◌*◌, ◌%◌, ◌<◌, ◌==◌, Bool, true, cond, List, [], ◌∷◌, length, get_or, slice_get, Option, Some, None, map, refl, sym, ap, ◌∙◌, arith, bytes_eq}
 use Rattle.std.proofs.lemmas.Option.{gets}
-use Rattle.std.specs.Str.{bytes_eq}
 use Rattle.std.specs.Cmp.Lexicographic.{bytes_decides}
 use Rattle.intaglio_content.specs.Key.{Key}
 use Rattle.intaglio_interner.specs.State.{first, AreDistinct}
@@ -41,8 +40,7 @@ by_result ts w (Some s) sound complete =
 
 -- if a test leaves a symbol or none, and a symbol is left, the test is passed, and it is that symbol
 tested : (b : Bool) (s i : ℕ) → cond b (Some s) None ≡ Some i → (b ≡ true) × (s ≡ i)
-tested true s i e = (refl, cc)
-tested false s i e = cc
+tested b s i e = grind (arith, common_steps)
 
 -- if a test leaves a result or none, and a symbol is left, the result was that symbol
 passed : (b : Bool) (o : Option ℕ) (i : ℕ) → cond b o None ≡ Some i → o ≡ Some i

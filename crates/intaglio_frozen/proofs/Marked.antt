@@ -1,9 +1,7 @@
 -- The check that a group of strings has no places, step by step.
 use Rattle.std.proofs.lemmas.Grind.{common_steps}
-use Rattle.std.proofs.Common.{◌≡◌, ℕ, ◌+◌, ◌<◌, ◌==◌, inl, inr, Bool, List, length, get_or, set, take, sym, subst, ap, ◌∙◌, arith}
-use Rattle.std.specs.List.{count_by}
+use Rattle.std.proofs.Common.{◌≡◌, ℕ, ◌+◌, ◌<◌, ◌==◌, inl, inr, Bool, List, length, get_or, set, take, sym, ap, ◌∙◌, arith, count_by, get_or-set_same, get_or-set_other}
 use Rattle.std.proofs.lemmas.Bool.{cases_eq}
-use Rattle.std.proofs.lemmas.List.{get_or-set_same, get_or-set_other}
 use Rattle.intaglio_frozen.specs.Layout.{groups_for}
 use Rattle.intaglio_frozen.specs.LookUp.{scaled}
 use Rattle.intaglio_frozen.specs.Stuck.{group_at, place_under, IsBeforeAt, IsEarlierAt, HasNoPlace}
@@ -26,7 +24,7 @@ module _ (hs : List ℕ) (pilots : ℕ → ℕ) (g : ℕ) where
       AreMarked hs pilots g marks n → AreMarked hs pilots g (set marks at taken_mark) n
   marked_more marks n at i l is old = record {
     taken = λ p e. elim (cases_eq p at) [
-      | inl same ↦ (i, subst (λ x. IsBeforeAt hs pilots g x i) (sym same) is)
+      | inl same ↦ (i, rw same is)
       | inr other ↦ old.taken p (sym (get_or-set_other marks at p taken_mark 0 other) ∙ e)
     ];
     others = λ p d. elim (cases_eq p at) [
@@ -55,7 +53,7 @@ module _ (hs : List ℕ) (pilots : ℕ → ℕ) (g : ℕ) where
           record {
             there = are.there k l;
             group = are.group k l;
-            taken = (found.0, inl (subst (λ x. IsBeforeAt hs pilots g x found.0) (sym is) found.1));
+            taken = (found.0, inl (rw is found.1));
           },
         )
 

@@ -1,14 +1,12 @@
 -- The ends and the text of a frozen table are those of its strings.
 use Rattle.std.proofs.lemmas.Grind.{common_steps}
-use Rattle.std.proofs.Common.{◌≡◌, ◌∙◌, ℕ, zero, suc, ◌+◌, ◌-◌, ◌*◌, ◌/◌, ◌%◌, ◌^◌, ◌<◌, ◌≤◌, Bool, List, [], ◌∷◌, ◌++◌, length, take, drop, get_or, slice_range, refl, sym, ap, arith, length-drop}
+use Rattle.std.proofs.Common.{◌≡◌, ◌∙◌, ℕ, zero, suc, ◌+◌, ◌-◌, ◌*◌, ◌/◌, ◌%◌, ◌^◌, ◌<◌, ◌≤◌, Bool, List, [], ◌∷◌, ◌++◌, length, take, drop, get_or, slice_range, refl, sym, ap, arith, length-drop, take-add}
 use Rattle.std.specs.List.{concat}
 use Rattle.std.specs.Int.{w32, to_le_bytes}
 use Rattle.std.proofs.lemmas.List.{drop_all, drop-drop, get_or-drop}
 use Rattle.std.proofs.lemmas.List.Edits.{length-between}
 use Rattle.std.proofs.lemmas.List.Folds.{drop_split}
-use Rattle.std.proofs.Math.Seq.{take-add}
-use Rattle.intaglio_frozen.proofs.Ends.{ends_within}
-use Rattle.intaglio_frozen.proofs.Places.{strings_length, u32_in}
+use Rattle.intaglio_frozen.proofs.Places.{ends_within, strings_length, u32_in}
 use Rattle.intaglio_frozen.specs.Strings.{strings_from, AreEnds}
 use Rattle.intaglio_hash.specs.Numbers.{u32_at}
 use Rattle.intaglio_frozen.specs.Layout.{kind, numbers_at, count, own0, own1, ends_at, pilots_at, text_at, ends, strings}
@@ -102,11 +100,4 @@ module _ (bs : List ℕ) (f : AreBytes bs) (b : IsBlock bs) where
       id.hash0 ≡ own0 bs → id.hash1 ≡ own1 bs → HasId bs
   of_header id h e0 e1 =
       let is = of_strings (is_text_number (kind bs)) id h in
-      record {
-        id = record {
-          kind = refl;
-          count = refl;
-          hash0 = sym e0 ∙ is.hash0;
-          hash1 = sym e1 ∙ is.hash1;
-        };
-      }
+      record { id = grind (arith, common_steps) }

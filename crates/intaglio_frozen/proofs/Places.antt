@@ -1,14 +1,37 @@
 -- The strings of a block, and where they stand.
 use Rattle.std.proofs.lemmas.Grind.{common_steps}
-use Rattle.std.proofs.Common.{◌≡◌, ℕ, zero, suc, ◌+◌, ◌-◌, ◌*◌, ◌/◌, ◌^◌, ◌<◌, ◌≤◌, List, ◌∷◌, length, drop, get_or, slice_get, slice_range, option_copied, Option, None, Some, IfSome, IsSome, Bor, refl, sym, ap, ◌∙◌, arith}
+use Rattle.std.proofs.Common.{◌≡◌, ℕ, zero, suc, ◌+◌, ◌-◌, ◌*◌, ◌/◌, ◌^◌, ◌<◌, ◌≤◌, List, ◌∷◌, length, drop, get_or, slice_get, slice_range, option_copied, Option, None, Some, IfSome, IsSome, Bor, refl, sym, ap, ◌∙◌, arith, [], mul_comm}
 use Rattle.std.proofs.lemmas.Nat.{row_fits}
-use Rattle.std.proofs.Math.Nat.{mul_comm}
 use Rattle.std.specs.Slice.{IsGetRangeResult}
 use Rattle.intaglio_hash.specs.Push.{number}
-use Rattle.intaglio_frozen.proofs.Ends.{from_length, strings_at, end_bounds}
 use Rattle.intaglio_hash.specs.Numbers.{u32_at}
 use Rattle.intaglio_frozen.specs.Layout.{numbers_at, count, ends_at, text_at, ends, strings}
 use Rattle.intaglio_frozen.specs.IsFrozen.{IsBlock}
+use Rattle.intaglio_frozen.specs.Strings.{strings_from, AreEnds}
+
+-- where the first string begins is within the bytes
+pub ends_within : (at all : ℕ) (es : List ℕ) → AreEnds at all es → at ≤ all
+ends_within at all [] h = omega (arith, h)
+ends_within at all (e ∷ es) h = omega (arith, h.0, ends_within e all es h.1)
+
+-- there are as many strings as ends
+pub from_length : (at : ℕ) (bytes es : List ℕ) → length (strings_from at bytes es) ≡ length es
+from_length at bytes [] = refl
+from_length at bytes (e ∷ es) = ap suc (from_length e bytes es)
+
+-- where a string begins and ends
+pub end_bounds : (at all : ℕ) (es : List ℕ) (i : ℕ) → AreEnds at all es → i < length es →
+    (get_or (at ∷ es) i 0 ≤ get_or es i 0) × (get_or es i 0 ≤ all)
+end_bounds at all [] i h l = absurd (omega arith)
+end_bounds at all (e ∷ es) zero h l = (h.0, ends_within e all es h.1)
+end_bounds at all (e ∷ es) (suc i) h l = end_bounds e all es i h.1 (omega arith)
+
+-- the string at i lies between the end before it, or the beginning if i is 0, and its own end
+pub strings_at : (at : ℕ) (bytes es : List ℕ) (i : ℕ) → i < length es →
+    slice_get (strings_from at bytes es) i ≡ Some (slice_range bytes (get_or (at ∷ es) i 0) (get_or es i 0))
+strings_at at bytes [] i l = absurd (omega arith)
+strings_at at bytes (e ∷ es) zero l = refl
+strings_at at bytes (e ∷ es) (suc i) l = strings_at e bytes es i (omega arith)
 
 -- n numbers that are read from bytes are a list of length n
 pub numbers_length : (bs : List ℕ) (at n : ℕ) → length (numbers_at bs at n) ≡ n
@@ -93,3 +116,14 @@ pub numbers_step : (bs : List ℕ) (at n i : ℕ) → i < n →
     numbers_at bs (at + 4 * i) (n - i) ≡ u32_at bs (at + 4 * i) ∷ numbers_at bs (at + 4 * (i + 1))
     (n - (i + 1))
 numbers_step bs at n i l = grind (arith, common_steps)
+
+-- if n numbers in bytes are the ends of strings, there are n strings
+pub length_left : (start : ℕ) (text bs : List ℕ) (at n : ℕ) →
+    length (strings_from start text (numbers_at bs at n)) ≡ n
+length_left start text bs at n = from_length start text (numbers_at bs at n) ∙ numbers_length bs at n
+
+-- the next number, and the others
+pub next_number : (bs : List ℕ) (at n : ℕ) → 0 < n →
+    numbers_at bs at n ≡ u32_at bs at ∷ numbers_at bs (at + 4) (n - 1)
+next_number bs at zero l = absurd (omega arith)
+next_number bs at (suc n) l = ap (λ k. u32_at bs at ∷ numbers_at bs (at + 4) k) (omega arith)

@@ -1,8 +1,7 @@
 -- Strings of a text.
-use Rattle.std.proofs.Common.{◌≡◌, ℕ, zero, suc, ◌<◌, ◌≤◌, List, ◌∷◌, length, drop, get_or, slice_range, Some, sym, subst, ◌∙◌, arith}
+use Rattle.std.proofs.Common.{◌≡◌, ℕ, zero, suc, ◌<◌, ◌≤◌, List, ◌∷◌, length, drop, get_or, slice_range, Some, sym, subst, ◌∙◌, arith, IsUtf8, IsCharBoundary}
 use Rattle.std.proofs.lemmas.Option.{slice_get_within}
 use Rattle.std.proofs.lemmas.Str.{IsUtf8-between, IsCharBoundary-start}
-use Rattle.std.specs.Str.{IsUtf8, IsCharBoundary}
 use Rattle.intaglio_frozen.proofs.Places.{strings_length, strings_get, ends_order, numbers_length}
 use Rattle.intaglio_frozen.specs.Layout.{count, ends_at, text_at, ends, strings}
 use Rattle.intaglio_frozen.specs.IsFrozen.{IsBlock, AreTexts}

@@ -14,11 +14,7 @@ use Rattle.intaglio_symbol.specs.declared.error.InternError.TheVariants.{Overflo
 -- none of the keys before another is equal to it
 none_before : (keys rest : List Key) (k : Key) → AreDistinct (keys ++ k ∷ rest) → first_of keys k ≡ None
 none_before keys rest k apart = first-none keys k (λ j lt.
-    let size : length keys < length (keys ++ k ∷ rest) = omega (arith, length-append keys (k ∷ rest)) in
-    rw (
-      get_or-append keys (k ∷ rest) [] j lt,
-      get_or-append_seam keys k rest [],
-    ) at (apart j (length keys) [] lt size))
+    rw (get_or-append keys (k ∷ rest) [] j lt, get_or-append_seam keys k rest []) at (apart j (length keys) [] lt (omega (arith, length-append keys (k ∷ rest)))))
 
 -- if the contents that are held and further ones are all distinct, interning these appends them all in order
 pub all_interned : {C : Type 0} (key : C → Key) (held cs : List C) → AreDistinct (map key (held ++ cs)) →

@@ -41,7 +41,7 @@ impl<'a> Model for FrozenStrings<'a> {
     ghost invariant = { IsLeft };
 }
 
-#[tactic(auto, using(crate::proofs::Left::length_left))]
+#[tactic(auto, using(crate::proofs::Places::length_left))]
 impl<'a> FrozenStrings<'a> {
     // The strings of this text with the ends at a position in the bytes.
     pub(crate) fn of(bytes: &'a [u8], text: &'a [u8], at: usize, count: usize) -> FrozenStrings<'a>
@@ -75,7 +75,7 @@ impl<'a> Iterator for FrozenStrings<'a> {
     ghost remaining = { item_count (λ rest. rest) };
 
     #[inline]
-    #[tactic(auto, using(std::proofs::lemmas::Grind::common_steps, crate::proofs::Left::next_number, crate::proofs::Ends::ends_within))]
+    #[tactic(auto, using(std::proofs::lemmas::Grind::common_steps, crate::proofs::Places::next_number, crate::proofs::Places::ends_within))]
     fn next(&mut self) -> Option<&'a [u8]> {
         if self.left == 0 {
             return None;

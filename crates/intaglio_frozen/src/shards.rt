@@ -158,6 +158,7 @@ impl<'a> Shards<'a> {
 
     /// The symbol of a string, if it is in the dictionary. It is looked up in its shard alone.
     #[tactic(auto, using(std::proofs::lemmas::Grind::common_steps, crate::proofs::Sharded::starts_length, crate::proofs::Sharded::found_below, crate::proofs::Sharded::found_none))]
+    #[tactic(auto, using(std::proofs::lemmas::Grind::common_steps, crate::proofs::Sharded::starts_length, crate::proofs::Sharded::found_below, crate::proofs::Sharded::found_none))]
     pub fn check_interned(&self, string: &[u8]) -> Option<Symbol>
         ensures { result ≡ first string_key (joined self.now) (string_key string.now) }
     {

@@ -5,8 +5,6 @@ use Rattle.intaglio_frozen.proofs.absorbing.forms_of.Goals as goal
 
 pub loop-i-preserved : goal.loop-i-preserved
 loop-i-preserved g c =
-    let spell = g.C.Form.CopiedTo.form_spelling in
-    let needs = g.C.Form.AddedTo.needs in
     let strings = g.L.StringList.strings c.args.list.now in
     let form = c.from_string.result in
     let string = c.string.result.now in

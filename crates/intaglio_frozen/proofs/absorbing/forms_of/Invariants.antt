@@ -1,6 +1,5 @@
 -- The forms so far are those of the first strings.
-use Rattle.std.proofs.Common.{◌≡◌, ◌≤◌, length, map, take, vec_len, vec_capacity}
-use Rattle.std.specs.List.{sum_by}
+use Rattle.std.proofs.Common.{◌≡◌, ◌≤◌, length, map, take, vec_len, vec_capacity, sum_by}
 use Rattle.intaglio_frozen.proofs.absorbing.forms_of.Given as goal
 
 abbrev pub invariant-loop-i : goal.invariant-loop-i

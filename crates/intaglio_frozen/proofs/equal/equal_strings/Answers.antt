@@ -1,5 +1,5 @@
-use Rattle.std.proofs.Common.{◌≡◌, ◌∙◌, ◌∷◌, ◌++◌, [], length, take, sym, ap, arith}
-use Rattle.std.proofs.lemmas.List.{length-take-le, take_all}
+use Rattle.std.proofs.lemmas.Grind.{common_steps}
+use Rattle.std.proofs.Common.{◌≡◌, ◌∙◌, ◌∷◌, ◌++◌, [], length, take, ap, arith, length-take-le, take_all}
 use Rattle.std.proofs.lemmas.Option.{slice_get_within}
 use Rattle.intaglio_frozen.proofs.Distinct.{added, again, none_equal}
 use Rattle.intaglio_frozen.proofs.HashedAhead.{take_there}
@@ -16,8 +16,7 @@ loop-i-preserved g c =
     let new = added c.loop-i.table.state c.get_or_intern.new.self.state w c.in_ok-symbol.symbol
     c.in_ok-symbol.ensures.step (omega (arith, size, c.id.ensures, c.if-id-i.false)) in
     record {
-      contents = new ∙ ap (λ t. t ++ w ∷ []) c.loop-i.invariant.contents
-          ∙ sym (take_there ws i w c.string.ensures);
+      contents = grind (arith, common_steps, take_there ws i w c.string.ensures);
       distinct = c.in_ok-symbol.ensures.valid.distinct;
     }
 

@@ -1,5 +1,4 @@
-use Rattle.std.proofs.Common.{◌∙◌}
-use Rattle.std.proofs.lemmas.Bool.{eqb-true}
+use Rattle.std.proofs.Common.{◌∙◌, eqb-true}
 use Rattle.intaglio_frozen.proofs.OfStrings.{AreBytes, of_header}
 use Rattle.intaglio_frozen.proofs.freezing.has_id.Goals as goal
 

@@ -1,6 +1,6 @@
-use Rattle.std.proofs.Common.{rules, ◌≡◌, refl, subst, sym, ◌∙◌}
+use Rattle.std.proofs.Common.{rules, ◌≡◌, refl, sym, ◌∙◌}
 use Rattle.intaglio_frozen.specs.Layout.{kind as kind_of, strings}
-use Rattle.intaglio_frozen.specs.IsFrozen.{AreTexts, number_of, text_kind}
+use Rattle.intaglio_frozen.specs.IsFrozen.{number_of, text_kind}
 use Rattle.intaglio_frozen.specs.declared.kind.Kind.{Kind}
 use Rattle.intaglio_frozen.specs.declared.kind.Kind.TheVariants.{Bytes, Text}
 use Rattle.intaglio_frozen.proofs.freezing.holds.Goals as goal
@@ -20,8 +20,7 @@ returns-then-has_id-clause-table g c = λ found.
         block = search rules;
         unused = search rules;
         found = search rules;
-        texts = λ is.
-            subst AreTexts (sym same) (c.requires.allowed.texts (text_of c.args.kind (sym kind_is ∙ is)));
+        texts = λ is. rw same (c.requires.allowed.texts (text_of c.args.kind (sym kind_is ∙ is)));
         id = search rules;
       };
       strings = same;

@@ -1,6 +1,5 @@
 -- The strings so far are UTF-8.
-use Rattle.std.proofs.Common.{◌≡◌, ℕ, List, ◌<◌, Some, slice_get}
-use Rattle.std.specs.Str.{IsUtf8}
+use Rattle.std.proofs.Common.{◌≡◌, ℕ, List, ◌<◌, Some, slice_get, IsUtf8}
 use Rattle.intaglio_frozen.proofs.from_string.are_texts.Given as goal
 
 abbrev pub invariant-loop-i : goal.invariant-loop-i

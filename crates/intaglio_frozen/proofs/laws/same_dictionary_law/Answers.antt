@@ -1,7 +1,5 @@
-use Rattle.std.proofs.Common.{subst}
 use Rattle.intaglio_frozen.specs.Layout.{kind, strings}
 use Rattle.intaglio_frozen.proofs.OfStrings.{AreBytes, of_strings, to_strings}
-use Rattle.intaglio_frozen.specs.Id.{IsIdOfStrings}
 use Rattle.intaglio_frozen.specs.Identity.{is_text_number}
 use Rattle.intaglio_frozen.proofs.laws.same_dictionary_law.Goals as goal
 
@@ -15,6 +13,4 @@ returns c =
     let fc : AreBytes cs = λ k. (c.type_inv.second k).fits in
     let h = c.requires in
     let of_first = to_strings bs fb h.first.block (is_text_number (kind bs)) id h.id in
-    let strings_same = subst (λ ws. IsIdOfStrings (is_text_number (kind bs)) ws id) h.strings of_first in
-    let kind_same = subst (λ k. IsIdOfStrings (is_text_number k) (strings cs) id) h.kind strings_same in
-    of_strings cs fc h.second.block (is_text_number (kind cs)) id kind_same
+    of_strings cs fc h.second.block (is_text_number (kind cs)) id (rw (h.strings, h.kind) at of_first)

@@ -1,5 +1,4 @@
-use Rattle.std.proofs.Common.{◌∙◌, ◌++◌, length, get_or, ap, false, arith}
-use Rattle.std.specs.List.{flat_map}
+use Rattle.std.proofs.Common.{◌∙◌, ◌++◌, length, get_or, ap, false, arith, flat_map}
 use Rattle.std.specs.Hash.DefaultHasher.{with_keys, write}
 use Rattle.intaglio_frozen.specs.declared.id.DictionaryId.{DictionaryId}
 use Rattle.intaglio_frozen.specs.SetId.{first_kind, number_bytes, shard_bytes}
@@ -14,9 +13,7 @@ loop-id-init c =
     let ids = c.args.ids.now in
     let begin = number_bytes (length ids) ++ number_bytes (first_kind ids) in
     written_behind (with_keys 2 c.args.key) c.write_two.new.hasher begin (flat_map shard_bytes ids)
-    (c.write_two.ensures
-    ∙ ap (λ k. write c.with_keys-hasher.result (number_bytes (length ids) ++ number_bytes k)) c.first_kind.ensures
-    ∙ ap (λ h. write h begin) c.with_keys-hasher.ensures)
+    (rw (← c.with_keys-hasher.ensures, ← c.first_kind.ensures) c.write_two.ensures)
 
 pub loop-id-preserved : goal.loop-id-preserved
 loop-id-preserved c =

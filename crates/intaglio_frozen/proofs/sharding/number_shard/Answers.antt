@@ -1,9 +1,9 @@
 use Rattle.std.proofs.lemmas.Grind.{common_steps}
-use Rattle.std.proofs.Common.{◌≡◌, ◌∙◌, ◌<◌, [], ◌∷◌, ◌+◌, ap, arith, get_or, length, length-append, subst, sym}
-use Rattle.std.proofs.lemmas.List.{length-map, length-set}
+use Rattle.std.proofs.Common.{◌≡◌, ◌∙◌, ◌<◌, [], ◌∷◌, ◌+◌, ap, arith, get_or, length, length-append, sym}
+use Rattle.std.proofs.lemmas.List.{length-map}
 use Rattle.std.proofs.lemmas.Option.{slice_get-get_or}
 use Rattle.intaglio_frozen.specs.Shards.{shard_of}
-use Rattle.intaglio_frozen.proofs.Numbered.{HavePlaces, so_far, far_few, far_in, far_length, far_out, last_places, places_in, places_out}
+use Rattle.intaglio_frozen.proofs.Numbered.{so_far, far_few, far_in, far_length, far_out, last_places, places_in, places_out}
 use Rattle.intaglio_frozen.proofs.sharding.number_shard.Goals as goal
 use Rattle.intaglio_frozen.proofs.sharding.number_shard.Goals.{then-number-shards, else-number-shards}
 
@@ -41,20 +41,16 @@ loop-place-preserved g c =
           (omega (arith, within, c.loop-place.invariant.len, c.requires.len)) c.loop-place.invariant.places in
           record {
             next = grind (arith, common_steps);
-            places = subst (HavePlaces count strings shards number (place + 1)) (sym t.numbers-is) placed;
-            len = ap length t.numbers-is ∙ length-set c.loop-place.numbers place t.new.result
-                ∙ c.loop-place.invariant.len;
+            places = rw t.numbers-is placed;
+            len = grind (arith, common_steps);
           }
       | else-number-shards t ↦
           let isnt : get_or shards place 0 ≡ number → ⊥ = λ e. t.if-number-shards.false (sym e) in
           let same = far_out count strings shards c.requires.shards number place w at isnt in
           record {
             next = t.next-is ∙ c.loop-place.invariant.next ∙ sym (ap length same);
-            places =
-                subst (HavePlaces count strings shards number (place + 1)) (sym t.numbers-is)
-                (places_out count strings shards c.requires.shards number place w at c.loop-place.numbers isnt
-                c.loop-place.invariant.places);
-            len = ap length t.numbers-is ∙ c.loop-place.invariant.len;
+            places = rw t.numbers-is (places_out count strings shards c.requires.shards number place w at c.loop-place.numbers isnt c.loop-place.invariant.places);
+            len = grind (arith, common_steps);
           }
     ]
 

@@ -1,6 +1,6 @@
-use Rattle.std.proofs.Common.{◌≡◌, ◌∙◌, ap, arith, length, subst}
+use Rattle.std.proofs.Common.{◌≡◌, ◌∙◌, ap, arith, length}
 use Rattle.std.proofs.lemmas.List.{length-map}
-use Rattle.intaglio_frozen.specs.Shards.{AreNumbered, first_shards, joined, shard_of}
+use Rattle.intaglio_frozen.specs.Shards.{shard_of}
 use Rattle.intaglio_frozen.proofs.Numbered.{numbered_map}
 use Rattle.intaglio_frozen.proofs.sharding.numbers_of.Goals as goal
 
@@ -16,5 +16,4 @@ returns g c =
     omega (arith, c.loop-number-test.false, c.loop-number.auto.number-end) in
     numbered_map count strings shards numbers (c.loop-number.invariant.len ∙ same) (λ i within.
     c.requires.below i (omega (arith, within, same)))
-    (subst (λ n. AreNumbered strings shards (joined (first_shards count strings n)) n numbers) done
-    c.loop-number.invariant.numbered)
+    (rw done at c.loop-number.invariant.numbered)

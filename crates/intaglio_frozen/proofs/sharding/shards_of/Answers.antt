@@ -1,14 +1,12 @@
 use Rattle.std.proofs.lemmas.Grind.{common_steps}
-use Rattle.std.proofs.Common.{◌≡◌, ◌∙◌, ◌<◌, ◌++◌, [], ◌∷◌, take, rules, arith}
+use Rattle.std.proofs.Common.{◌≡◌, ◌∙◌, ◌<◌, ◌++◌, [], ◌∷◌, rules, arith}
 use Rattle.intaglio_frozen.specs.Shards.{shard_of}
 use Rattle.intaglio_frozen.proofs.HashedAhead.{take_there}
 use Rattle.intaglio_frozen.proofs.sharding.shards_of.Goals as goal
 
 pub loop-i-preserved : goal.loop-i-preserved
 loop-i-preserved g c =
-    let of = shard_of c.args.count in
     let strings = g.L.StringList.strings c.args.list.now in
-    let front = take c.loop-i.i strings in
     let string = c.string.result.now in
     let items : c.push_reserved.new.self.items ≡ c.loop-i.shards.items ++ c.shard_of.result ∷ [] =
     search rules in

@@ -1,5 +1,5 @@
 use Rattle.std.proofs.lemmas.Grind.{common_steps}
-use Rattle.std.proofs.Common.{◌≡◌, ◌∙◌, ◌++◌, [], ◌∷◌, ap, arith, get_or, length, map, sym}
+use Rattle.std.proofs.Common.{◌≡◌, ◌∙◌, ◌++◌, [], ◌∷◌, ap, arith, get_or, length}
 use Rattle.std.proofs.lemmas.List.{length-map, map-append}
 use Rattle.std.proofs.lemmas.Option.{slice_get-get_or}
 use Rattle.intaglio_frozen.specs.Shards.{shard_of}
@@ -17,7 +17,5 @@ loop-i-preserved g c =
           let string = get_or strings i [] in
           let there =
           slice_get-get_or strings i [] (omega (arith, ap length c.requires, length-map strings (shard_of c.args.count))) in
-          ap (λ t. map (λ v. v.now) t.items) w.strings-is ∙ c.loop-i.invariant
-          ∙ sym (next_out c.args.count strings c.args.shards.now c.requires i c.args.number string there
-          w.if-shards-i.false)
+          grind (arith, common_steps, next_out c.args.count strings c.args.shards.now c.requires i c.args.number string there w.if-shards-i.false)
     ]

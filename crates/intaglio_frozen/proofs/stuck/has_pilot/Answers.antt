@@ -1,6 +1,5 @@
-use Rattle.std.proofs.Common.{◌∙◌, ℕ, inl, inr, get_or, subst, sym, arith}
+use Rattle.std.proofs.Common.{◌∙◌, ℕ, inl, inr, get_or, arith}
 use Rattle.std.proofs.lemmas.Bool.{cases_eq}
-use Rattle.intaglio_frozen.specs.Stuck.{HasNoPlace}
 use Rattle.intaglio_frozen.proofs.stuck.has_pilot.Goals as goal
 
 pub loop-pilot-preserved : goal.loop-pilot-preserved
@@ -15,8 +14,7 @@ loop-pilot-preserved c =
       marked = c.has_places.ensures.marked ps g old.marked;
       none = λ q l. elim (cases_eq q n) [
         | inl same ↦
-            subst (λ x. (j : ℕ) × HasNoPlace hs ps g x j) (sym same)
-            (c.has_places.ensures.none ps g old.marked c.requires.members c.if-has_places.false)
+            rw same (c.has_places.ensures.none ps g old.marked c.requires.members c.if-has_places.false)
         | inr other ↦ old.none q (omega (arith, l, other))
       ];
     }

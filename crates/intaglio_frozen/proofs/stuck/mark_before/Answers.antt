@@ -1,7 +1,6 @@
 use Rattle.std.proofs.lemmas.Grind.{common_steps}
-use Rattle.std.proofs.Common.{◌∙◌, ℕ, ap, get_or, length, length-set, subst, sym, arith}
+use Rattle.std.proofs.Common.{◌∙◌, ℕ, ap, get_or, subst, sym, arith}
 use Rattle.intaglio_frozen.specs.Stuck.{IsBefore, place_under}
-use Rattle.intaglio_frozen.specs.Marks.{AreMarked}
 use Rattle.intaglio_frozen.proofs.Marked.{marked_more}
 use Rattle.intaglio_frozen.proofs.stuck.mark_before.Goals.{then-is_before, else-is_before}
 use Rattle.intaglio_frozen.proofs.stuck.mark_before.Goals as goal
@@ -19,8 +18,8 @@ loop-i-preserved c =
       | then-is_before w ↦
           (let at = w.place_under.result in
           record {
-            len = ap (λ xs. length xs) w.marks-is ∙ length-set marks at 0xffff_ffff ∙ old.len;
-            marked = subst (λ xs. AreMarked hs ps g xs 0) (sym w.marks-is)
+            len = grind (arith, common_steps);
+            marked = rw w.marks-is
                 (marked_more hs ps g marks 0 at i (omega (arith, w.place_under.ensures.below, old.len, c.requires.marks))
                 (record {
                   there = c.loop-i-test.true;

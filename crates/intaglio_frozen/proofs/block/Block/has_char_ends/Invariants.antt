@@ -1,5 +1,4 @@
-use Rattle.std.proofs.Common.{ℕ, ◌<◌, get_or}
-use Rattle.std.specs.Str.{IsCharBoundary}
+use Rattle.std.proofs.Common.{ℕ, ◌<◌, get_or, IsCharBoundary}
 use Rattle.intaglio_frozen.specs.Layout.{ends}
 use Rattle.intaglio_frozen.proofs.block.Block.has_char_ends.Given as goal
 

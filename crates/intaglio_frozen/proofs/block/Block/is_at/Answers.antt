@@ -1,9 +1,8 @@
-use Rattle.std.proofs.Common.{◌≡◌, ℕ, [], get_or, Option, None, Some, sym, ◌∙◌}
+use Rattle.std.proofs.Common.{◌≡◌, [], get_or, ◌∙◌}
 use Rattle.std.proofs.lemmas.Bool.{eqb-true, eqb-false}
 use Rattle.std.proofs.lemmas.Option.{slice_get-get_or}
 use Rattle.intaglio_frozen.proofs.Found.{found_same, found_other}
 use Rattle.intaglio_frozen.specs.Layout.{strings}
-use Rattle.intaglio_frozen.specs.LookUp.{find}
 use Rattle.intaglio_frozen.proofs.block.Block.is_at.Goals as goal
 
 pub returns-in-Some-clause-found : goal.returns-in-Some-clause-found
@@ -21,32 +20,16 @@ returns-in-Some-clause-not_found c =
     let s = c.in-Some.symbol in
     let hash = rw (← c.self.view_is) at c.requires.hash in
     let there = rw (← c.self.view_is) at c.requires.there in
-    rw (← c.self.view_is) (λ differs.
     let w = get_or (strings bs) c.args.i [] in
-    let is = slice_get-get_or (strings bs) c.args.i [] there in (
-      c.self.invariant.1,
-      (
-        w,
-        is,
-        found_other bs w s c.args.i
-            (c.in-Some.ensures c.self.invariant.0 w (hash w is)) (eqb-false s c.args.i differs),
-      ),
-    ))
+    let is = slice_get-get_or (strings bs) c.args.i [] there in
+    rw (← c.self.view_is) (λ differs. (c.self.invariant.1, (w, is, found_other bs w s c.args.i (c.in-Some.ensures c.self.invariant.0 w (hash w is)) (eqb-false s c.args.i differs))))
 
 pub returns-in-None-clause-not_found : goal.returns-in-None-clause-not_found
 returns-in-None-clause-not_found c =
     let bs = c.self.inside.reader.bytes.now in
     let hash = rw (← c.self.view_is) at c.requires.hash in
     let there = rw (← c.self.view_is) at c.requires.there in
-    rw (← c.self.view_is) (λ _.
     let w = get_or (strings bs) c.args.i [] in
     let is = slice_get-get_or (strings bs) c.args.i [] there in
-    let none : find bs w ≡ None = c.in-None.ensures c.self.invariant.0 w (hash w is) in (
-      c.self.invariant.1,
-      (
-        w,
-        is,
-        λ found. let no : ◌≡◌ {A = Option ℕ} None (Some c.args.i) =
-            sym none ∙ found in cc,
-      ),
-    ))
+    let none = c.in-None.ensures c.self.invariant.0 w (hash w is) in
+    rw (← c.self.view_is) (λ _. (c.self.invariant.1, (w, is, λ found. cc)))
