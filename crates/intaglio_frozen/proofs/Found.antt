@@ -1,15 +1,18 @@
 -- What look-ups find, where each text is found at its position.
 use Rattle.std.proofs.lemmas.Grind.{common_steps}
-use Rattle.std.proofs.Common.{◌≡◌, ℕ, suc, ◌+◌, ◌*◌, ◌%◌, ◌<◌, ◌==◌, Bool, true, cond, List, [], ◌∷◌, length, get_or, slice_get, Option, Some, None, map, refl, sym, ap, ◌∙◌, arith, bytes_eq}
-use Rattle.std.proofs.lemmas.Option.{gets}
+use Rattle.std.proofs.Common.{◌≡◌, ℕ, suc, ◌+◌, ◌*◌, ◌%◌, ◌<◌, ◌==◌, Bool, true, cond, List, [], ◌∷◌, length, get_or, slice_get, Option, Some, None, map, refl, sym, ap, ◌∙◌, arith, bytes_eq, ◌⊎◌, inl, inr, ◌-◌, ◌≤◌, ◌++◌, take, option_map}
+use Rattle.std.proofs.lemmas.Option.{gets, slice_get_within, slice_get-map, slice_get-get_or}
 use Rattle.std.specs.Cmp.Lexicographic.{bytes_decides}
 use Rattle.intaglio_content.specs.Key.{Key}
-use Rattle.intaglio_interner.specs.State.{first, AreDistinct}
+use Rattle.intaglio_interner.specs.State.{first, AreDistinct, first_of}
 use Rattle.intaglio_interner.proofs.First.{first-none, first-some}
-use Rattle.intaglio_frozen.proofs.Apart.{distinct_from}
+use Rattle.intaglio_frozen.proofs.Sharded.{distinct_from}
 use Rattle.intaglio_hash.specs.Numbers.{u32_at}
-use Rattle.intaglio_frozen.specs.Layout.{tags_at, strings}
-use Rattle.intaglio_frozen.specs.LookUp.{hash, place, if_same, find_at, find, FindsAll}
+use Rattle.intaglio_frozen.specs.Layout.{tags_at, strings, key0, key1}
+use Rattle.intaglio_frozen.specs.LookUp.{hash, place, if_same, find_at, find, FindsAll, hash_under}
+use Rattle.std.proofs.lemmas.Bool.{cases_lt}
+use Rattle.intaglio_frozen.specs.Checked.{AreFoundBelow, AreFoundFrom, AreHashesFrom}
+use Rattle.std.proofs.lemmas.List.{map_more}
 
 -- a text's key
 abbrev pub key : List ℕ → Key
@@ -118,3 +121,73 @@ same_by_get (x ∷ xs) (y ∷ ys) (suc n) e f g =
     let tail : xs ≡ ys = same_by_get xs ys n (omega arith) (omega arith) (λ k l. g (suc k) (omega arith)) in
     cc
 same_by_get xs ys n e f g = absurd (omega arith)
+
+-- What is found of strings, batch by batch.
+
+-- those before, and a batch
+pub found_further : (bs : List ℕ) (start n : ℕ) → AreFoundBelow bs start → AreFoundFrom bs start n →
+    AreFoundBelow bs (start + n)
+found_further bs start n before after = λ k l. elim (cases_lt k start) [
+  | inl below ↦ before k below
+  | inr above ↦
+      let same : start + (k - start) ≡ k = omega arith in rw same at (after (k - start) (omega arith))
+]
+
+-- the hashes of the strings of a table under its keys
+pub hashes_of : (bs hs : List ℕ) → hs ≡ map (hash_under (key0 bs) (key1 bs)) (strings bs) →
+    AreHashesFrom bs 0 hs
+unfolding hash
+hashes_of bs hs made = λ k l w is.
+    let f = hash_under (key0 bs) (key1 bs) in
+    let from : 0 + k ≡ k = omega arith in
+    let there : slice_get (strings bs) k ≡ Some w = rw from at is in
+    grind (arith, common_steps, gets)
+
+-- all strings, if as many are found as there are
+pub found_all : (bs : List ℕ) (n : ℕ) → n ≡ length (strings bs) → AreFoundFrom bs 0 n → FindsAll bs
+found_all bs n all found = λ i w is.
+    let from : 0 + i ≡ i = omega arith in
+    rw from at (found i (omega (arith, all, slice_get_within (strings bs) i w is)) w (rw from is))
+
+-- Batches of strings, which are hashed ahead in groups.
+
+-- an element of a list that has some
+pub element : {S : Type 0} (all : List S) (n : ℕ) → n < length all → S
+element [] n lt = absurd (omega (arith, lt))
+element (s ∷ ss) n lt = s
+
+module _ {S : Type 0} (all : List S) (n : ℕ) where
+  -- the string there
+  pub string_there : (string : S → List ℕ) (d : S) → n < length all →
+      slice_get (map string all) n ≡ Some (string (get_or all n d))
+  string_there string d lt = slice_get-map string all n ∙ ap (option_map string) (slice_get-get_or all n d lt)
+
+  -- what is found of those so far, and of one more
+  pub found_more : {Y : Type 0} (f : S → Y) (d : S) (old new : List Y) (y : Y) → n < length all →
+      old ≡ map f (take n all) → new ≡ old ++ y ∷ [] → y ≡ f (get_or all n d)
+      → new ≡ map f (take (n + 1) all)
+  found_more f d old new y lt before more is = more ∙ rw (before, is, map_more f all n d lt) refl
+
+-- what is found of strings in a frozen table are their first positions
+pub found_first : {S : Type 0} (string : S → List ℕ) (bs : List ℕ) (ss : List S) → FindsAll bs
+    → map (λ s. find bs (string s)) ss ≡ map (λ s. first (λ w. w ∷ []) (strings bs) (string s ∷ [])) ss
+found_first string bs [] all = refl
+found_first string bs (s ∷ ss) all =
+    let here = find_is_first bs (string s) all in
+    let others = found_first string bs ss all in
+    cc
+
+-- Contents whose keys are their spellings.
+
+-- if the key of each content is its spelling alone, the keys of contents are those of their spellings
+spelled_keys : {C : Type 0} (key : C → Key) (spelling : C → List ℕ) → ((c : C) → key c ≡ spelling c ∷ []) →
+    (cs : List C) →
+    map key cs ≡ map (λ w. w ∷ []) (map spelling cs)
+spelled_keys key spelling same [] = refl
+spelled_keys key spelling same (c ∷ cs) = λ i. same c i ∷ spelled_keys key spelling same cs i
+
+-- if each content's key is its spelling alone, a key is first at the same place in contents and spellings
+pub first_spelled : {C : Type 0} (key : C → Key) (spelling : C → List ℕ) →
+    ((c : C) → key c ≡ spelling c ∷ []) → (cs : List C) (k : Key) →
+    first key cs k ≡ first (λ w. w ∷ []) (map spelling cs) k
+first_spelled key spelling same cs k = ap (λ keys. first_of keys k) (spelled_keys key spelling same cs)

@@ -2,16 +2,10 @@
 pub mod Places
 pub mod Found
 pub mod HashedAhead
-pub mod Batched
-pub mod Texts
-pub mod Checked
-pub mod Thawed
-pub mod Spelled
 pub mod Distinct
 pub mod Marked
 pub mod Hashed
 pub mod OfStrings
-pub mod Apart
 pub mod Absorbed
 pub mod Filtered
 pub mod Joined

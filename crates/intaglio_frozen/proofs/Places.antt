@@ -1,13 +1,16 @@
 -- The strings of a block, and where they stand.
 use Rattle.std.proofs.lemmas.Grind.{common_steps}
-use Rattle.std.proofs.Common.{◌≡◌, ℕ, zero, suc, ◌+◌, ◌-◌, ◌*◌, ◌/◌, ◌^◌, ◌<◌, ◌≤◌, List, ◌∷◌, length, drop, get_or, slice_get, slice_range, option_copied, Option, None, Some, IfSome, IsSome, Bor, refl, sym, ap, ◌∙◌, arith, [], mul_comm}
+use Rattle.std.proofs.Common.{◌≡◌, ℕ, zero, suc, ◌+◌, ◌-◌, ◌*◌, ◌/◌, ◌^◌, ◌<◌, ◌≤◌, List, ◌∷◌, length, drop, get_or, slice_get, slice_range, option_copied, Option, None, Some, IfSome, IsSome, Bor, refl, sym, ap, ◌∙◌, arith, [], mul_comm, subst, IsUtf8, IsCharBoundary}
 use Rattle.std.proofs.lemmas.Nat.{row_fits}
 use Rattle.std.specs.Slice.{IsGetRangeResult}
 use Rattle.intaglio_hash.specs.Push.{number}
 use Rattle.intaglio_hash.specs.Numbers.{u32_at}
 use Rattle.intaglio_frozen.specs.Layout.{numbers_at, count, ends_at, text_at, ends, strings}
-use Rattle.intaglio_frozen.specs.IsFrozen.{IsBlock}
+use Rattle.intaglio_frozen.specs.IsFrozen.{IsBlock, AreTexts}
 use Rattle.intaglio_frozen.specs.Strings.{strings_from, AreEnds}
+use Rattle.std.proofs.lemmas.Option.{slice_get_within}
+use Rattle.std.proofs.lemmas.Str.{IsUtf8-between, IsCharBoundary-start}
+use Rattle.intaglio_frozen.specs.Checked.{AreCharEnds}
 
 -- where the first string begins is within the bytes
 pub ends_within : (at all : ℕ) (es : List ℕ) → AreEnds at all es → at ≤ all
@@ -127,3 +130,26 @@ pub next_number : (bs : List ℕ) (at n : ℕ) → 0 < n →
     numbers_at bs at n ≡ u32_at bs at ∷ numbers_at bs (at + 4) (n - 1)
 next_number bs at zero l = absurd (omega arith)
 next_number bs at (suc n) l = ap (λ k. u32_at bs at ∷ numbers_at bs (at + 4) k) (omega arith)
+
+-- Strings of a text.
+
+-- each string begins where a character does
+char_start : (text es : List ℕ) (i : ℕ) → IsUtf8 text → AreCharEnds text es → i ≤ length es →
+    IsCharBoundary text (get_or (0 ∷ es) i 0)
+char_start text es zero u all l = IsCharBoundary-start text u
+char_start text es (suc i) u all l = all i (omega arith)
+
+-- the strings of a block are UTF-8 if the whole text is, and a character ends at each end of a string
+pub texts_between : (bs : List ℕ) → IsBlock bs → IsUtf8 (drop (text_at bs) bs) →
+    AreCharEnds (drop (text_at bs) bs) (ends bs) → AreTexts (strings bs)
+texts_between bs block u all = λ i w at.
+    let text = drop (text_at bs) bs in
+    let below : i < count bs = omega (arith, slice_get_within (strings bs) i w at, strings_length bs) in
+    let within : i < length (ends bs) = omega (arith, below, numbers_length bs (ends_at bs) (count bs)) in
+    let start = get_or (0 ∷ ends bs) i 0 in
+    let end = get_or (ends bs) i 0 in
+    let is : Some (slice_range text start end) ≡ Some w = sym (strings_get bs i below) ∙ at in
+    let same : slice_range text start end ≡ w = cc in
+    subst IsUtf8 same
+    (IsUtf8-between text start end u (ends_order bs i block below).0
+    (char_start text (ends bs) i u all (omega (arith, within))) (all i within))

@@ -334,7 +334,7 @@ fn has_strings<L: StringList>(block: &Block<'_>, list: &L) -> bool
 }
 
 // Whether each string of a block, which have these hashes, is found at its symbol.
-#[tactic(auto, using(std::proofs::lemmas::Grind::common_steps, crate::proofs::Checked::hashes_of, crate::proofs::Checked::found_all))]
+#[tactic(auto, using(std::proofs::lemmas::Grind::common_steps, crate::proofs::Found::hashes_of, crate::proofs::Found::found_all))]
 fn finds_all(block: &Block<'_>, hashes: &[u64]) -> bool
     requires { hashes.now ≡ hashes_under (key0_of block.now) (key1_of block.now) (strings block.now) }
     ensures { IsTrue result → FindsAll block.now }

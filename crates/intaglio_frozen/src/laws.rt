@@ -29,7 +29,7 @@ use std::hash::BuildHasher;
 /// spelling_law(&table, b"rose");
 /// prove!(of_frozen == of_table);
 /// ```
-#[tactic(auto, using(crate::proofs::Spelled::first_spelled))]
+#[tactic(auto, using(crate::proofs::Found::first_spelled))]
 pub fn spelling_law<C: Content, S: BuildHasher>(table: &Table<C, S>, string: &[u8])
     requires { (content : C) → C.key content ≡ C.spelling content ∷ [] }
     ensures { let contents = table.now.state.contents in

@@ -94,7 +94,7 @@ impl<'a> Shards<'a> {
     /// assert!(rt; shards.check_interned(b"rose") == Some(rose));
     /// assert!(rt; shards.get(rose) == Some(b"rose".as_slice()));
     /// ```
-    #[tactic(auto, using(std::proofs::lemmas::Grind::common_steps, crate::proofs::Apart::distinct_shards))]
+    #[tactic(auto, using(std::proofs::lemmas::Grind::common_steps, crate::proofs::Sharded::distinct_shards))]
     pub fn open(alloc: Global, tables: Vec<Frozen<'a>>) -> Result<Shards<'a>, ShardsError>
         ensures strings { IfOk result (λ shards. shards ≡ tables.entry.items) }
         ensures shards { IfOk result (λ shards. AreShards shards) }
@@ -157,7 +157,6 @@ impl<'a> Shards<'a> {
     }
 
     /// The symbol of a string, if it is in the dictionary. It is looked up in its shard alone.
-    #[tactic(auto, using(std::proofs::lemmas::Grind::common_steps, crate::proofs::Sharded::starts_length, crate::proofs::Sharded::found_below, crate::proofs::Sharded::found_none))]
     #[tactic(auto, using(std::proofs::lemmas::Grind::common_steps, crate::proofs::Sharded::starts_length, crate::proofs::Sharded::found_below, crate::proofs::Sharded::found_none))]
     pub fn check_interned(&self, string: &[u8]) -> Option<Symbol>
         ensures { result ≡ first string_key (joined self.now) (string_key string.now) }

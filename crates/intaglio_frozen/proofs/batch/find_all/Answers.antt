@@ -1,7 +1,7 @@
 use Rattle.std.proofs.Common.{◌≡◌, ◌∙◌, map, rules}
 use Rattle.intaglio_frozen.specs.LookUp.{find, hash}
 use Rattle.intaglio_frozen.proofs.HashedAhead.{first}
-use Rattle.intaglio_frozen.proofs.Batched.{element, found_more, string_there}
+use Rattle.intaglio_frozen.proofs.Found.{element, found_more, string_there}
 use Rattle.intaglio_frozen.proofs.batch.find_all.Goals as goal
 
 pub find_hashed-requires : goal.find_hashed-requires

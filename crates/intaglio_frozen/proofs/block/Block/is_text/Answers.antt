@@ -1,5 +1,5 @@
 use Rattle.std.proofs.Common.{◌≡◌, drop, ◌∙◌, IsUtf8}
-use Rattle.intaglio_frozen.proofs.Texts.{texts_between}
+use Rattle.intaglio_frozen.proofs.Places.{texts_between}
 use Rattle.intaglio_frozen.specs.Layout.{text_at}
 use Rattle.intaglio_frozen.proofs.block.Block.is_text.Goals as goal
 

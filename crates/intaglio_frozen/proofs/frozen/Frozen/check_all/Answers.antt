@@ -1,5 +1,5 @@
 use Rattle.std.proofs.Common.{◌≡◌}
-use Rattle.intaglio_frozen.proofs.Batched.{found_first}
+use Rattle.intaglio_frozen.proofs.Found.{found_first}
 use Rattle.intaglio_frozen.proofs.frozen.Frozen.check_all.Goals as goal
 
 pub returns : goal.returns

@@ -3,7 +3,7 @@ use Rattle.std.proofs.lemmas.Result.{err_from_is_err_and}
 use Rattle.intaglio_interner.specs.Batch.{IfOverflow}
 use Rattle.intaglio_interner.specs.Issue.{interned_all}
 use Rattle.intaglio_content.specs.Key.{packed_key}
-use Rattle.intaglio_frozen.proofs.Thawed.{all_interned, no_overflow}
+use Rattle.intaglio_frozen.proofs.Distinct.{all_interned, no_overflow}
 use Rattle.intaglio_frozen.proofs.frozen.Frozen.thaw.Goals as goal
 
 pub returns-clause-strings : goal.returns-clause-strings
