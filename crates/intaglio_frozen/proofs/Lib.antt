@@ -5,7 +5,6 @@ pub mod HashedAhead
 pub mod Distinct
 pub mod Marked
 pub mod Hashed
-pub mod OfStrings
 pub mod Absorbed
 pub mod Filtered
 pub mod Joined

@@ -108,11 +108,6 @@ pub starts_length : (n : ℕ) (shards : List (List (List ℕ))) → length (star
 starts_length n [] = refl
 starts_length n (us ∷ shards) = ap suc (starts_length (n + length us) shards)
 
--- the shards before one and that one, when it is read at its number
-pub shard_read : (shards : List (List (List ℕ))) (s : ℕ) (ws : List (List ℕ)) → s < length shards →
-    ws ≡ get_or shards s ws → slice_get shards s ≡ Some ws
-shard_read shards s ws below read = slice_get_read shards (length shards) s ws refl below read
-
 -- the start that is read at the number of a shard
 pub start_read : (starts : List ℕ) (shards : List (List (List ℕ))) (s n : ℕ) (ws : List (List ℕ)) →
     starts ≡ starts_from 0 shards → slice_get shards s ≡ Some ws → n ≡ get_or starts s n

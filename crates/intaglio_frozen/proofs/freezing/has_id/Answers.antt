@@ -1,5 +1,5 @@
 use Rattle.std.proofs.Common.{◌∙◌, eqb-true}
-use Rattle.intaglio_frozen.proofs.OfStrings.{AreBytes, of_header}
+use Rattle.intaglio_frozen.proofs.Places.{AreBytes, of_header}
 use Rattle.intaglio_frozen.proofs.freezing.has_id.Goals as goal
 
 pub returns-then-id-read_u64 : goal.returns-then-id-read_u64

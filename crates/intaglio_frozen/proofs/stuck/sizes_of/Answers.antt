@@ -15,9 +15,7 @@ overflow_add-index_mut c =
     let read = get_or_default c.loop-i.sizes.items at x 0 (omega (arith, c.group_at.ensures.below, old.count)) in
     let few = count_by-le-length (is_in hs at) (take i hs) in
     let size = length-take-le i hs (omega (arith, c.loop-i-test.true)) in
-    record {
-      fits = grind (arith, common_steps);
-    }
+    record { fits = grind (arith, common_steps) }
 
 pub loop-i-preserved : goal.loop-i-preserved
 loop-i-preserved c = grind (arith, common_steps, get_or_default, length-set, counted_more)

@@ -1,7 +1,8 @@
 use Rattle.std.proofs.lemmas.Grind.{common_steps}
 use Rattle.std.proofs.Common.{◌≡◌, ◌-◌, ◌+◌, Some, ap, arith, length, slice_get}
+use Rattle.std.proofs.lemmas.Option.{slice_get_read}
 use Rattle.intaglio_frozen.specs.Shards.{joined}
-use Rattle.intaglio_frozen.proofs.Sharded.{all_taken, shard_read, start_read}
+use Rattle.intaglio_frozen.proofs.Sharded.{all_taken, start_read}
 use Rattle.intaglio_frozen.proofs.shards.Shards.len.Goals as goal
 
 -- the last shard ends where all end
@@ -10,7 +11,7 @@ count c =
     let shards = c.self.inside.tables.items in
     let last = c.len-last.result - 1 in
     let ws = c.index-2.result.now in
-    let at : slice_get shards last ≡ Some ws = grind (arith, common_steps, shard_read) in
+    let at : slice_get shards last ≡ Some ws = grind (arith, common_steps, slice_get_read) in
     let start =
     start_read c.self.inside.starts.items shards last c.index.result.now ws
     c.self.invariant.starts at c.index.ensures in
