@@ -1,6 +1,6 @@
 -- What strings write to a hasher, one after the other.
 use Rattle.std.proofs.lemmas.Grind.{common_steps}
-use Rattle.std.proofs.Common.{◌≡◌, ◌∙◌, ℕ, ◌+◌, ◌<◌, ◌≤◌, List, [], ◌∷◌, ◌++◌, length, drop, get_or, slice_get, Some, refl, sym, ap, arith}
+use Rattle.std.proofs.Common.{◌≡◌, ◌≢◌, ◌∙◌, ℕ, ◌+◌, ◌<◌, ◌≤◌, List, [], ◌∷◌, ◌++◌, length, drop, get_or, slice_get, Some, refl, sym, ap, arith}
 use Rattle.std.specs.List.{concat, flat_map}
 use Rattle.std.specs.Int.{w32, to_le_bytes}
 use Rattle.std.specs.Hash.DefaultHasher.{write, write_byte}
@@ -8,6 +8,8 @@ use Rattle.std.specs.declared.hash.DefaultHasher.{DefaultHasher}
 use Rattle.std.proofs.lemmas.List.{drop_more}
 use Rattle.std.proofs.lemmas.List.Sums.{fold-append}
 use Rattle.intaglio_frozen.proofs.HashedAhead.{drop_there}
+use Rattle.intaglio_frozen.specs.declared.id.DictionaryId.{DictionaryId}
+use Rattle.intaglio_frozen.specs.SetId.{hashed_under, set_of_shards, shards_bytes}
 use Rattle.intaglio_frozen.specs.Id.{end_behind, end_bytes}
 
 -- bytes behind others
@@ -62,3 +64,9 @@ next_text h now i w ws at written =
 pub last_text : (h : DefaultHasher) (i : ℕ) (ws : List (List ℕ)) → length ws ≤ i →
     h ≡ write h (concat (drop i ws))
 last_text h i ws l = grind (arith, common_steps, write_none)
+
+-- if there isn't one shard, the set is the hash of all
+pub set_hashed : (ids : List DictionaryId) → length ids ≢ 1 → hashed_under 2 (shards_bytes ids) ≡ set_of_shards ids
+set_hashed (id ∷ []) several = absurd (several refl)
+set_hashed [] several = refl
+set_hashed (first ∷ second ∷ ids) several = refl

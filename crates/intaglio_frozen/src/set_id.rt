@@ -22,6 +22,7 @@ pub struct SetId {
 impl SetId {
     /// The set of a dictionary whose shards have these identities, if one process makes them all. If there is
     /// one shard, it has the hashes of this one's identity.
+    #[tactic(auto, using(std::proofs::lemmas::Grind::common_steps, crate::proofs::Hashed::set_hashed))]
     pub fn of_shards(ids: &[DictionaryId]) -> SetId
         ensures { result ≡ set_of_shards ids.now }
     {
