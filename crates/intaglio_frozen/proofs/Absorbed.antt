@@ -1,14 +1,6 @@
 -- What stands at the symbols that strings are given, one list after the other.
-use Rattle.std.proofs.lemmas.Grind.{common_steps, flat_map-append}
+use Rattle.intaglio_frozen.proofs.Names.{common_steps, flat_map-append, Key, InternError, Overflow, Memory, IfOverflow, issued, interned, issue_from, interned_all, content-still, interned_all-append, interned_all-longer, first-key, issued-found, mapped-some, string_key, union, AreKeys, AreMaps, IsMap}
 use Rattle.std.proofs.Common.{◌≡◌, ◌∙◌, ℕ, ◌<◌, List, [], ◌∷◌, ◌++◌, length, take, drop, refl, sym, ap, subst, Some, arith, Result, Ok, Err, IfOk, OnOk, flat_map, slice_get, take-append-drop}
-use Rattle.intaglio_content.specs.Key.{Key}
-use Rattle.intaglio_symbol.specs.declared.error.InternError.{InternError}
-use Rattle.intaglio_symbol.specs.declared.error.InternError.TheVariants.{Overflow, Memory}
-use Rattle.intaglio_interner.specs.Batch.{IfOverflow}
-use Rattle.intaglio_interner.specs.Issue.{issued, interned, issue_from, interned_all}
-use Rattle.intaglio_interner.proofs.Held.{content-still, interned_all-append, interned_all-longer}
-use Rattle.intaglio_interner.proofs.Laws.{first-key, issued-found, mapped-some}
-use Rattle.intaglio_frozen.specs.Merging.{string_key, union, AreKeys, AreMaps, IsMap}
 use Rattle.intaglio_interner.proofs.Room.{bytes-none, grows-none}
 
 -- what grows where nothing was interned

@@ -1,21 +1,11 @@
 -- Strings that are interned in order, and are all new, are distinct.
-use Rattle.std.proofs.lemmas.Grind.{common_steps}
+use Rattle.intaglio_frozen.proofs.Names.{common_steps, length-map, length-append, map-append, gets, slice_get_within, slice_get-get_or, some-below, first-none, State, AreDistinct, first, first_of, InternError, AreEqual, HasNoEqual, Key, interned, interned_all, IfOverflow, Overflow, Memory}
 use Rattle.std.proofs.Common.{get_or, ◌≡◌, ◌∙◌, ℕ, ◌+◌, ◌<◌, ◌≤◌, List, [], ◌∷◌, ◌++◌, length, map, take, slice_get, Option, Some, None, MatchOption, Result, Ok, refl, sym, ap, arith, append-nil, append_assoc}
-use Rattle.std.proofs.lemmas.List.{length-map, length-append, map-append}
-use Rattle.std.proofs.lemmas.Option.{gets, slice_get_within, slice_get-get_or}
-use Rattle.intaglio_interner.proofs.First.{some-below, first-none}
 use Rattle.intaglio_interner.specs.Change.{InternsForm, InternsNewForm}
 use Rattle.intaglio_interner.specs.Lookup.{IsStored, Keeps}
-use Rattle.intaglio_interner.specs.State.{State, AreDistinct, first, first_of}
-use Rattle.intaglio_symbol.specs.declared.error.InternError.{InternError}
 use Rattle.intaglio_frozen.proofs.Found.{key, at_key}
-use Rattle.intaglio_frozen.specs.Freezing.{AreEqual, HasNoEqual}
 use Rattle.std.proofs.Math.Seq.{get_or-append_seam}
 use Rattle.std.proofs.Math.ListN.{get_or-append}
-use Rattle.intaglio_content.specs.Key.{Key}
-use Rattle.intaglio_interner.specs.Issue.{interned, interned_all}
-use Rattle.intaglio_interner.specs.Batch.{IfOverflow}
-use Rattle.intaglio_symbol.specs.declared.error.InternError.TheVariants.{Overflow, Memory}
 
 -- if a search finds only old symbols, a string that is interned by its result with a new symbol is appended
 by_found : (o : Option ℕ) (old new : State (List ℕ)) (w : List ℕ) (s : ℕ) →

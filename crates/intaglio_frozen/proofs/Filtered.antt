@@ -1,11 +1,6 @@
 -- What is interned of the strings that pass a test, and of all strings.
 use Rattle.std.proofs.Common.{◌≡◌, ◌≢◌, ◌∙◌, ◌==◌, ℕ, ◌+◌, Bool, true, false, cond, List, [], ◌∷◌, ◌++◌, map, Option, Some, option_map, is_some, refl, ap, arith, filter, flat_map}
-use Rattle.std.proofs.lemmas.Grind.{common_steps}
-use Rattle.intaglio_interner.specs.State.{first}
-use Rattle.intaglio_interner.specs.Issue.{interned, interned_all}
-use Rattle.intaglio_interner.proofs.First.{key_eq-unequal}
-use Rattle.intaglio_frozen.specs.Merging.{string_key, union}
-use Rattle.intaglio_frozen.specs.Laws.{ShardsMerge}
+use Rattle.intaglio_frozen.proofs.Names.{common_steps, first, interned, interned_all, key_eq-unequal, string_key, union, ShardsMerge}
 use Rattle.intaglio_frozen.specs.Shards.{shard_of}
 
 module _ (p : List ℕ → Bool) where

@@ -1,18 +1,11 @@
 -- What look-ups find, where each text is found at its position.
-use Rattle.std.proofs.lemmas.Grind.{common_steps}
+use Rattle.intaglio_frozen.proofs.Names.{common_steps, gets, slice_get_within, slice_get-map, slice_get-get_or, Key, first, AreDistinct, first_of, first-none, first-some, tags_at, key0, key1, if_same, find_at, FindsAll, hash_under, cases_lt, AreFoundBelow, AreFoundFrom, AreHashesFrom, map_more}
 use Rattle.std.proofs.Common.{◌≡◌, ℕ, suc, ◌+◌, ◌*◌, ◌%◌, ◌<◌, ◌==◌, Bool, true, cond, List, [], ◌∷◌, length, get_or, slice_get, Option, Some, None, map, refl, sym, ap, ◌∙◌, arith, bytes_eq, ◌⊎◌, inl, inr, ◌-◌, ◌≤◌, ◌++◌, take, option_map}
-use Rattle.std.proofs.lemmas.Option.{gets, slice_get_within, slice_get-map, slice_get-get_or}
 use Rattle.std.specs.Cmp.Lexicographic.{bytes_decides}
-use Rattle.intaglio_content.specs.Key.{Key}
-use Rattle.intaglio_interner.specs.State.{first, AreDistinct, first_of}
-use Rattle.intaglio_interner.proofs.First.{first-none, first-some}
 use Rattle.intaglio_frozen.proofs.Sharded.{distinct_from}
 use Rattle.intaglio_hash.specs.Numbers.{u32_at}
-use Rattle.intaglio_frozen.specs.Layout.{tags_at, strings, key0, key1}
-use Rattle.intaglio_frozen.specs.LookUp.{hash, place, if_same, find_at, find, FindsAll, hash_under}
-use Rattle.std.proofs.lemmas.Bool.{cases_lt}
-use Rattle.intaglio_frozen.specs.Checked.{AreFoundBelow, AreFoundFrom, AreHashesFrom}
-use Rattle.std.proofs.lemmas.List.{map_more}
+use Rattle.intaglio_frozen.specs.Layout.{strings}
+use Rattle.intaglio_frozen.specs.LookUp.{hash, place, find}
 
 -- a text's key
 abbrev pub key : List ℕ → Key

@@ -1,16 +1,9 @@
 -- What strings write to a hasher, one after the other.
-use Rattle.std.proofs.lemmas.Grind.{common_steps}
+use Rattle.intaglio_frozen.proofs.Names.{common_steps, concat, flat_map, w32, to_le_bytes, write_byte, drop_more, fold-append, DictionaryId, hashed_under, set_of_shards, shards_bytes, end_behind, end_bytes}
 use Rattle.std.proofs.Common.{◌≡◌, ◌≢◌, ◌∙◌, ℕ, ◌+◌, ◌<◌, ◌≤◌, List, [], ◌∷◌, ◌++◌, length, drop, get_or, slice_get, Some, refl, sym, ap, arith}
-use Rattle.std.specs.List.{concat, flat_map}
-use Rattle.std.specs.Int.{w32, to_le_bytes}
-use Rattle.std.specs.Hash.DefaultHasher.{write, write_byte}
+use Rattle.std.specs.Hash.DefaultHasher.{write}
 use Rattle.std.specs.declared.hash.DefaultHasher.{DefaultHasher}
-use Rattle.std.proofs.lemmas.List.{drop_more}
-use Rattle.std.proofs.lemmas.List.Sums.{fold-append}
 use Rattle.intaglio_frozen.proofs.HashedAhead.{drop_there}
-use Rattle.intaglio_frozen.specs.declared.id.DictionaryId.{DictionaryId}
-use Rattle.intaglio_frozen.specs.SetId.{hashed_under, set_of_shards, shards_bytes}
-use Rattle.intaglio_frozen.specs.Id.{end_behind, end_bytes}
 
 -- bytes behind others
 pub write_behind : (h : DefaultHasher) (xs ys : List ℕ) → write (write h xs) ys ≡ write h (xs ++ ys)

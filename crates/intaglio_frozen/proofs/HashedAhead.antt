@@ -1,10 +1,6 @@
 -- Numbers of strings, one beside each: what holds of those so far, and of one more.
 use Rattle.std.proofs.Common.{◌≡◌, ℕ, ◌+◌, ◌<◌, ◌≤◌, ◌⊎◌, inl, inr, List, [], ◌∷◌, ◌++◌, length, map, take, drop, sym, ap, ◌∙◌, append_assoc, arith, Some, slice_get, get_or, set}
-use Rattle.std.proofs.lemmas.Grind.{common_steps}
-use Rattle.std.proofs.lemmas.Bool.{cases_lt}
-use Rattle.std.proofs.lemmas.List.{take_all, take_more_set, take-append-drop, drop_more, drop_all, map_push}
-use Rattle.std.proofs.lemmas.Option.{gets}
-use Rattle.intaglio_frozen.specs.Ahead.{AreFirst}
+use Rattle.intaglio_frozen.proofs.Names.{common_steps, cases_lt, take_all, take_more_set, take-append-drop, drop_more, drop_all, map_push, gets, AreFirst}
 
 -- the element at a position, and those before and behind it
 module _ {X : Type 0} (xs : List X) (i : ℕ) (x : X) (there : slice_get xs i ≡ Some x) where

@@ -1,10 +1,6 @@
 -- Maps of shards, as one map.
-use Rattle.std.proofs.lemmas.Grind.{common_steps}
+use Rattle.intaglio_frozen.proofs.Names.{common_steps, slice_get_within, decode, IsMap, ShardMapsJoin, joined, joined_map, sum_of, AreShardMaps}
 use Rattle.std.proofs.Common.{◌≡◌, ◌∙◌, ℕ, ◌+◌, ◌<◌, List, [], ◌∷◌, ◌++◌, length, map, append-nil, Some, refl, ap, arith, slice_get}
-use Rattle.std.proofs.lemmas.Option.{slice_get_within}
-use Rattle.intaglio_frozen.specs.Merging.{decode, IsMap}
-use Rattle.intaglio_frozen.specs.Laws.{ShardMapsJoin}
-use Rattle.intaglio_frozen.specs.Shards.{joined, joined_map, sum_of, AreShardMaps}
 use Rattle.intaglio_frozen.proofs.Sharded.{at_back, at_front}
 
 -- the numbers of a map, counted on from the end of other strings, lead to the same strings behind these

@@ -1,3 +1,5 @@
+-- What the proofs share.
+mod Names
 -- Lemmas on the bytes of a frozen table.
 pub mod Places
 pub mod Found

@@ -1,11 +1,6 @@
 -- The check that a group of strings has no places, step by step.
-use Rattle.std.proofs.lemmas.Grind.{common_steps}
+use Rattle.intaglio_frozen.proofs.Names.{common_steps, cases_eq, groups_for, scaled, group_at, place_under, IsBeforeAt, IsEarlierAt, HasNoPlace, AreMembers, AreMarked, taken_mark}
 use Rattle.std.proofs.Common.{◌≡◌, ℕ, ◌+◌, ◌<◌, ◌==◌, inl, inr, Bool, List, length, get_or, set, take, sym, ap, ◌∙◌, arith, count_by, get_or-set_same, get_or-set_other}
-use Rattle.std.proofs.lemmas.Bool.{cases_eq}
-use Rattle.intaglio_frozen.specs.Layout.{groups_for}
-use Rattle.intaglio_frozen.specs.LookUp.{scaled}
-use Rattle.intaglio_frozen.specs.Stuck.{group_at, place_under, IsBeforeAt, IsEarlierAt, HasNoPlace}
-use Rattle.intaglio_frozen.specs.Marks.{AreMembers, AreMarked, taken_mark}
 
 -- whether a hash is one of a group
 abbrev pub is_in : List ℕ → ℕ → ℕ → Bool

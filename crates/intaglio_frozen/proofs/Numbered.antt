@@ -1,12 +1,8 @@
 -- The map from a list to its shards, one behind the other.
-use Rattle.std.proofs.lemmas.Grind.{common_steps}
+use Rattle.intaglio_frozen.proofs.Names.{common_steps, cases_eq, slice_get_within, slice_get-front, IsMap, AreNumbered, first_shards, joined, shard}
 use Rattle.std.proofs.Common.{◌≡◌, ◌∙◌, ℕ, zero, suc, ◌+◌, ◌<◌, ◌≤◌, ◌==◌, List, [], ◌∷◌, ◌++◌, get_or, length, map, take, drop, Some, refl, sym, ap, arith, length-append, ◌⊎◌, inl, inr, slice_get, set, take-append-drop}
-use Rattle.std.proofs.lemmas.Bool.{cases_eq}
 use Rattle.std.proofs.lemmas.List.Elements.{filter-append}
-use Rattle.std.proofs.lemmas.Option.{slice_get_within}
-use Rattle.intaglio_interner.proofs.Held.{slice_get-front}
-use Rattle.intaglio_frozen.specs.Merging.{IsMap}
-use Rattle.intaglio_frozen.specs.Shards.{AreNumbered, first_shards, joined, shard, shard_of}
+use Rattle.intaglio_frozen.specs.Shards.{shard_of}
 use Rattle.intaglio_frozen.proofs.Sharded.{at_back, next_in, next_out, pushed_length}
 
 -- how many strings the first shards have, with a string that the shard s has or hasn't in front of others

@@ -1,24 +1,14 @@
 -- The strings of a block, and where they stand.
-use Rattle.std.proofs.lemmas.Grind.{common_steps}
+use Rattle.intaglio_frozen.proofs.Names.{common_steps, numbers_at, count, ends_at, text_at, ends, kind, own0, own1, pilots_at, IsBlock, AreTexts, strings_from, AreEnds, slice_get_within, AreCharEnds, concat, w32, to_le_bytes, drop_all, drop-drop, get_or-drop, IsIdOf, IsIdOfStrings, end_behind, end_bytes, HasId, is_text_number, ends_section, text_section, DictionaryId}
 use Rattle.std.proofs.Common.{◌≡◌, ℕ, zero, suc, ◌+◌, ◌-◌, ◌*◌, ◌/◌, ◌^◌, ◌<◌, ◌≤◌, List, ◌∷◌, length, drop, get_or, slice_get, slice_range, option_copied, Option, None, Some, IfSome, IsSome, Bor, refl, sym, ap, ◌∙◌, arith, [], mul_comm, subst, IsUtf8, IsCharBoundary, ◌%◌, Bool, ◌++◌, take, length-drop, take-add}
 use Rattle.std.proofs.lemmas.Nat.{row_fits}
 use Rattle.std.specs.Slice.{IsGetRangeResult}
 use Rattle.intaglio_hash.specs.Push.{number}
 use Rattle.intaglio_hash.specs.Numbers.{u32_at}
-use Rattle.intaglio_frozen.specs.Layout.{numbers_at, count, ends_at, text_at, ends, strings, kind, own0, own1, pilots_at}
-use Rattle.intaglio_frozen.specs.IsFrozen.{IsBlock, AreTexts}
-use Rattle.intaglio_frozen.specs.Strings.{strings_from, AreEnds}
-use Rattle.std.proofs.lemmas.Option.{slice_get_within}
+use Rattle.intaglio_frozen.specs.Layout.{strings}
 use Rattle.std.proofs.lemmas.Str.{IsUtf8-between, IsCharBoundary-start}
-use Rattle.intaglio_frozen.specs.Checked.{AreCharEnds}
-use Rattle.std.specs.List.{concat}
-use Rattle.std.specs.Int.{w32, to_le_bytes}
-use Rattle.std.proofs.lemmas.List.{drop_all, drop-drop, get_or-drop}
 use Rattle.std.proofs.lemmas.List.Edits.{length-between}
 use Rattle.std.proofs.lemmas.List.Folds.{drop_split}
-use Rattle.intaglio_frozen.specs.Id.{IsIdOf, IsIdOfStrings, end_behind, end_bytes}
-use Rattle.intaglio_frozen.specs.Identity.{HasId, is_text_number, ends_section, text_section}
-use Rattle.intaglio_frozen.specs.declared.id.DictionaryId.{DictionaryId}
 
 -- where the first string begins is within the bytes
 pub ends_within : (at all : ℕ) (es : List ℕ) → AreEnds at all es → at ≤ all

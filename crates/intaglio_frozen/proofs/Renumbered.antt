@@ -1,15 +1,6 @@
 -- What merging and renumbering keep.
-use Rattle.std.proofs.lemmas.Grind.{common_steps, flat_map-append}
+use Rattle.intaglio_frozen.proofs.Names.{common_steps, flat_map-append, gets, slice_get_past, Key, first, Distinct, interned, interned_all, key_eq-decides, first-still, interned_all-append, issued-found, decode, missing, renumber, string_key, IsMap, RenumberingKeepsStrings, MapsCompose, MapsAreUnique, MergingNests}
 use Rattle.std.proofs.Common.{◌≡◌, ◌∙◌, ℕ, zero, suc, ◌+◌, ◌<◌, ◌≤◌, Bool, true, false, cond, List, [], ◌∷◌, ◌++◌, length, map, get_or, refl, ap, Some, is_some, arith, slice_get}
-use Rattle.std.proofs.lemmas.Option.{gets, slice_get_past}
-use Rattle.intaglio_content.specs.Key.{Key}
-use Rattle.intaglio_interner.specs.State.{first, Distinct}
-use Rattle.intaglio_interner.specs.Issue.{interned, interned_all}
-use Rattle.intaglio_interner.proofs.First.{key_eq-decides}
-use Rattle.intaglio_interner.proofs.Held.{first-still, interned_all-append}
-use Rattle.intaglio_interner.proofs.Laws.{issued-found}
-use Rattle.intaglio_frozen.specs.Merging.{decode, missing, renumber, string_key, IsMap}
-use Rattle.intaglio_frozen.specs.Laws.{RenumberingKeepsStrings, MapsCompose, MapsAreUnique, MergingNests}
 
 module _ (new : List (List ℕ)) (few : length new ≤ missing) where
   -- a code by a map has the string that the code had

@@ -1,14 +1,8 @@
 -- Where the strings of shards stand when the shards are joined.
-use Rattle.std.proofs.lemmas.Grind.{common_steps, flat_map-append}
+use Rattle.intaglio_frozen.proofs.Names.{common_steps, flat_map-append, get_or-map, length-map, take-append-drop, get_or_from_slice_get, gets, slice_get_read, slice_get_within, slice_get-get_or, first, Distinct, first-append, key_eq-unequal, or_at, some-below, string_key, AreShards, joined, shard, starts_from, AreAllDistinct, AreEachDistinct, cases_lt}
 use Rattle.std.proofs.Common.{◌≡◌, ◌≢◌, ◌∙◌, ℕ, zero, suc, ◌+◌, ◌-◌, ◌<◌, ◌≤◌, List, [], ◌∷◌, ◌++◌, get_or, length, map, take, drop, Option, Some, None, option_map, refl, sym, ap, arith, length-append, slice_get, inl, inr}
-use Rattle.std.proofs.lemmas.List.{get_or-map, length-map, take-append-drop}
-use Rattle.std.proofs.lemmas.Option.{get_or_from_slice_get, gets, slice_get_read, slice_get_within, slice_get-get_or}
-use Rattle.intaglio_interner.specs.State.{first, Distinct}
-use Rattle.intaglio_interner.proofs.First.{first-append, key_eq-unequal, or_at, some-below}
-use Rattle.intaglio_frozen.specs.Merging.{string_key}
-use Rattle.intaglio_frozen.specs.Shards.{AreShards, joined, shard, shard_of, starts_from, AreAllDistinct, AreEachDistinct}
+use Rattle.intaglio_frozen.specs.Shards.{shard_of}
 use Rattle.intaglio_frozen.proofs.HashedAhead.{drop_there, take_there}
-use Rattle.std.proofs.lemmas.Bool.{cases_lt}
 use Rattle.intaglio_frozen.proofs.Renumbered.{apart}
 
 -- the numbers of the first strings, when a shard comes behind the others

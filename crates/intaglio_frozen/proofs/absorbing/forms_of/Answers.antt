@@ -1,4 +1,4 @@
-use Rattle.std.proofs.lemmas.Grind.{common_steps}
+use Rattle.intaglio_frozen.proofs.Names.{common_steps}
 use Rattle.std.proofs.Common.{◌≡◌, ◌∙◌, ◌++◌, [], ◌∷◌, rules, arith}
 use Rattle.intaglio_frozen.proofs.HashedAhead.{take_there}
 use Rattle.intaglio_frozen.proofs.absorbing.forms_of.Goals as goal

@@ -1,5 +1,5 @@
 use Rattle.std.proofs.Common.{◌≡◌, ◌≤◌, length, map, take, drop, vec_len, vec_capacity}
-use Rattle.intaglio_frozen.specs.Ahead.{AreFirst}
+use Rattle.intaglio_frozen.proofs.Names.{AreFirst}
 use Rattle.intaglio_frozen.specs.LookUp.{find, hash}
 use Rattle.intaglio_frozen.proofs.batch.find_all.Given as goal
 

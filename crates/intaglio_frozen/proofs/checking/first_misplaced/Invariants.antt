@@ -1,4 +1,4 @@
-use Rattle.intaglio_frozen.specs.Checked.{AreFoundFrom}
+use Rattle.intaglio_frozen.proofs.Names.{AreFoundFrom}
 use Rattle.intaglio_frozen.proofs.checking.first_misplaced.Given as goal
 
 abbrev pub invariant-loop-k : goal.invariant-loop-k

@@ -1,4 +1,4 @@
-use Rattle.std.proofs.lemmas.Grind.{common_steps}
+use Rattle.intaglio_frozen.proofs.Names.{common_steps}
 use Rattle.std.proofs.Common.{◌≡◌, ◌++◌, length, take, drop, arith}
 use Rattle.intaglio_frozen.proofs.Found.{found_further}
 use Rattle.intaglio_frozen.proofs.checking.first_not_found.Goals as goal

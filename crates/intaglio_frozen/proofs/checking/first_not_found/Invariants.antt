@@ -1,6 +1,6 @@
 use Rattle.std.proofs.Common.{◌-◌, ◌≤◌, length}
 use Rattle.intaglio_frozen.specs.Layout.{strings}
-use Rattle.intaglio_frozen.specs.Checked.{AreFoundBelow}
+use Rattle.intaglio_frozen.proofs.Names.{AreFoundBelow}
 use Rattle.intaglio_frozen.proofs.checking.first_not_found.Given as goal
 
 abbrev pub invariant-loop-start : goal.invariant-loop-start

@@ -1,5 +1,5 @@
 use Rattle.std.proofs.Common.{ℕ, ◌+◌, ◌<◌, get_or}
-use Rattle.intaglio_frozen.specs.Checked.{IsHashAt}
+use Rattle.intaglio_frozen.proofs.Names.{IsHashAt}
 use Rattle.intaglio_frozen.proofs.checking.hash_strings.Given as goal
 
 abbrev pub invariant-loop-k : goal.invariant-loop-k

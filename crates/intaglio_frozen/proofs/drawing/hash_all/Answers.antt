@@ -1,8 +1,6 @@
 use Rattle.std.proofs.Common.{◌≡◌, ◌∙◌, ap, get_or}
 use Rattle.std.specs.Hash.DefaultHasher.{write}
-use Rattle.std.proofs.lemmas.List.Sums.{fold_more}
-use Rattle.std.proofs.lemmas.Option.{slice_get_within, get_or_from_slice_get}
-use Rattle.intaglio_frozen.specs.Freezing.{after_string}
+use Rattle.intaglio_frozen.proofs.Names.{fold_more, slice_get_within, get_or_from_slice_get, after_string}
 use Rattle.intaglio_frozen.proofs.drawing.hash_all.Goals as goal
 
 pub loop-i-preserved : goal.loop-i-preserved

@@ -1,6 +1,6 @@
 -- The hasher after the strings so far.
 use Rattle.std.proofs.Common.{◌≡◌, take, fold}
-use Rattle.intaglio_frozen.specs.Freezing.{after_string}
+use Rattle.intaglio_frozen.proofs.Names.{after_string}
 use Rattle.intaglio_frozen.proofs.drawing.hash_all.Given as goal
 
 abbrev pub invariant-loop-i : goal.invariant-loop-i

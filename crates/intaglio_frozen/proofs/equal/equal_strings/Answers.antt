@@ -1,6 +1,5 @@
-use Rattle.std.proofs.lemmas.Grind.{common_steps}
+use Rattle.intaglio_frozen.proofs.Names.{common_steps, slice_get_within}
 use Rattle.std.proofs.Common.{◌≡◌, ◌∙◌, ◌∷◌, ◌++◌, [], length, take, ap, arith, length-take-le, take_all}
-use Rattle.std.proofs.lemmas.Option.{slice_get_within}
 use Rattle.intaglio_frozen.proofs.Distinct.{added, again, none_equal}
 use Rattle.intaglio_frozen.proofs.HashedAhead.{take_there}
 use Rattle.intaglio_frozen.proofs.equal.equal_strings.Goals as goal

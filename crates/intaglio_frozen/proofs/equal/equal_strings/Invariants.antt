@@ -1,7 +1,6 @@
 -- The strings so far are stored, each at its position, so they are distinct.
 use Rattle.std.proofs.Common.{◌≡◌, map, take}
-use Rattle.intaglio_interner.specs.State.{AreDistinct}
-use Rattle.intaglio_content.specs.Key.{packed_key}
+use Rattle.intaglio_frozen.proofs.Names.{AreDistinct, packed_key}
 use Rattle.intaglio_frozen.proofs.equal.equal_strings.Given as goal
 
 abbrev pub invariant-loop-i : goal.invariant-loop-i

@@ -1,6 +1,5 @@
 use Rattle.std.proofs.Common.{ap, length, arith}
-use Rattle.std.proofs.lemmas.List.Sums.{sum_by_more}
-use Rattle.std.proofs.lemmas.Option.{slice_get_within, get_or_from_slice_get}
+use Rattle.intaglio_frozen.proofs.Names.{sum_by_more, slice_get_within, get_or_from_slice_get}
 use Rattle.intaglio_frozen.proofs.freezing.byte_count.Goals as goal
 
 pub loop-i-preserved : goal.loop-i-preserved

@@ -1,6 +1,5 @@
-use Rattle.std.proofs.lemmas.Grind.{common_steps}
+use Rattle.intaglio_frozen.proofs.Names.{common_steps, LacksPlaces}
 use Rattle.std.proofs.Common.{arith}
-use Rattle.intaglio_frozen.specs.Freezing.{LacksPlaces}
 use Rattle.intaglio_frozen.proofs.freezing.freeze_near.Goals as goal
 
 pub loop-attempt-preserved : goal.loop-attempt-preserved

@@ -1,5 +1,5 @@
 use Rattle.std.proofs.Common.{ℕ, ◌<◌}
-use Rattle.intaglio_frozen.specs.Freezing.{HasNoEqual, LacksPlaces}
+use Rattle.intaglio_frozen.proofs.Names.{HasNoEqual, LacksPlaces}
 use Rattle.intaglio_frozen.proofs.freezing.freeze_near.Given as goal
 
 abbrev pub invariant-loop-attempt : goal.invariant-loop-attempt

@@ -1,6 +1,6 @@
 use Rattle.std.proofs.Common.{rules, ◌≡◌, refl, sym, ◌∙◌}
 use Rattle.intaglio_frozen.specs.Layout.{kind as kind_of, strings}
-use Rattle.intaglio_frozen.specs.IsFrozen.{number_of, text_kind}
+use Rattle.intaglio_frozen.proofs.Names.{number_of, text_kind}
 use Rattle.intaglio_frozen.specs.declared.kind.Kind.{Kind}
 use Rattle.intaglio_frozen.specs.declared.kind.Kind.TheVariants.{Bytes, Text}
 use Rattle.intaglio_frozen.proofs.freezing.holds.Goals as goal

@@ -1,6 +1,5 @@
 use Rattle.std.proofs.Common.{◌≡◌, get_or, rules}
-use Rattle.std.proofs.lemmas.Option.{slice_get_within, get_or_from_slice_get}
-use Rattle.intaglio_frozen.specs.LookUp.{hash_under}
+use Rattle.intaglio_frozen.proofs.Names.{slice_get_within, get_or_from_slice_get, hash_under}
 use Rattle.intaglio_frozen.proofs.Found.{found_more}
 use Rattle.intaglio_frozen.proofs.hashing.hashes.Goals as goal
 

@@ -1,5 +1,5 @@
 use Rattle.std.proofs.Common.{◌≡◌, ◌≤◌, length, map, take, vec_len, vec_capacity}
-use Rattle.intaglio_frozen.specs.LookUp.{hash_under}
+use Rattle.intaglio_frozen.proofs.Names.{hash_under}
 use Rattle.intaglio_frozen.proofs.hashing.hashes.Given as goal
 
 abbrev pub invariant-loop-i : goal.invariant-loop-i

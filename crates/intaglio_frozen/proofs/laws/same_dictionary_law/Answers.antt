@@ -1,6 +1,6 @@
-use Rattle.intaglio_frozen.specs.Layout.{kind, strings}
+use Rattle.intaglio_frozen.proofs.Names.{kind, is_text_number}
+use Rattle.intaglio_frozen.specs.Layout.{strings}
 use Rattle.intaglio_frozen.proofs.Places.{AreBytes, of_strings, to_strings}
-use Rattle.intaglio_frozen.specs.Identity.{is_text_number}
 use Rattle.intaglio_frozen.proofs.laws.same_dictionary_law.Goals as goal
 
 -- both are what their strings are

@@ -1,5 +1,5 @@
 -- The strings so far are UTF-8.
-use Rattle.intaglio_frozen.specs.IsFrozen.{AreTextsBefore}
+use Rattle.intaglio_frozen.proofs.Names.{AreTextsBefore}
 use Rattle.intaglio_frozen.proofs.list.first_not_utf8.Given as goal
 
 abbrev pub invariant-loop-i : goal.invariant-loop-i

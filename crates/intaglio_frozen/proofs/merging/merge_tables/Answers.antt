@@ -1,10 +1,5 @@
-use Rattle.std.proofs.lemmas.Grind.{common_steps, take_at_read}
+use Rattle.intaglio_frozen.proofs.Names.{common_steps, take_at_read, map-append, map-id, take-map, err_from_is_err_and, IfOverflow, interned_all, string_key, union, AreMaps, IsMap}
 use Rattle.std.proofs.Common.{◌≡◌, ◌∙◌, ◌+◌, ◌^◌, ◌<◌, ◌++◌, [], ◌∷◌, ap, length, map, refl, subst, sym, take, rules, arith}
-use Rattle.std.proofs.lemmas.List.{map-append, map-id, take-map}
-use Rattle.std.proofs.lemmas.Result.{err_from_is_err_and}
-use Rattle.intaglio_interner.specs.Batch.{IfOverflow}
-use Rattle.intaglio_interner.specs.Issue.{interned_all}
-use Rattle.intaglio_frozen.specs.Merging.{string_key, union, AreMaps, IsMap}
 use Rattle.intaglio_frozen.proofs.Absorbed.{if_overflow, maps_next, union_next, union_over}
 use Rattle.intaglio_frozen.proofs.merging.merge_tables.Goals as goal
 

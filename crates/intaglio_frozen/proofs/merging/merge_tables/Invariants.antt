@@ -1,7 +1,6 @@
 -- The table has the union of the lists so far, and the maps are theirs.
 use Rattle.std.proofs.Common.{◌≡◌, ◌≤◌, ◌^◌, length, map, take, vec_len, vec_capacity}
-use Rattle.intaglio_content.specs.Key.{hash_of}
-use Rattle.intaglio_frozen.specs.Merging.{union, AreMaps}
+use Rattle.intaglio_frozen.proofs.Names.{hash_of, union, AreMaps}
 use Rattle.intaglio_frozen.proofs.merging.merge_tables.Given as goal
 
 abbrev pub invariant-loop-i : goal.invariant-loop-i

@@ -1,6 +1,5 @@
 use Rattle.std.proofs.Common.{◌↔◌, ◌+◌, ◌-◌, ◌*◌}
-use Rattle.intaglio_frozen.specs.Strings.{AreEnds}
-use Rattle.intaglio_frozen.specs.Layout.{numbers_at}
+use Rattle.intaglio_frozen.proofs.Names.{AreEnds, numbers_at}
 use Rattle.intaglio_frozen.proofs.reader.are_ends.Given as goal
 
 abbrev pub invariant-loop-i : goal.invariant-loop-i

@@ -1,6 +1,5 @@
 use Rattle.std.proofs.Common.{◌∙◌, ◌++◌, length, arith, flat_map}
-use Rattle.std.specs.Hash.DefaultHasher.{with_keys}
-use Rattle.intaglio_frozen.specs.SetId.{number_bytes, set_bytes}
+use Rattle.intaglio_frozen.proofs.Names.{with_keys, number_bytes, set_bytes}
 use Rattle.intaglio_frozen.proofs.Hashed.{next_item, written_behind}
 use Rattle.intaglio_frozen.proofs.set_id.hash_sets.Goals as goal
 

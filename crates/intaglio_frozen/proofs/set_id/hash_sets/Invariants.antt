@@ -1,7 +1,7 @@
 -- What the other sets write.
 use Rattle.std.proofs.Common.{◌≡◌, drop, flat_map}
-use Rattle.std.specs.Hash.DefaultHasher.{with_keys, write}
-use Rattle.intaglio_frozen.specs.SetId.{merge_bytes, set_bytes}
+use Rattle.intaglio_frozen.proofs.Names.{with_keys, merge_bytes, set_bytes}
+use Rattle.std.specs.Hash.DefaultHasher.{write}
 use Rattle.intaglio_frozen.proofs.set_id.hash_sets.Given as goal
 
 abbrev pub invariant-loop-set : goal.invariant-loop-set

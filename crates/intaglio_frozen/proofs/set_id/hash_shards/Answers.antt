@@ -1,7 +1,6 @@
 use Rattle.std.proofs.Common.{◌∙◌, ◌++◌, length, get_or, ap, false, arith, flat_map}
-use Rattle.std.specs.Hash.DefaultHasher.{with_keys, write}
-use Rattle.intaglio_frozen.specs.declared.id.DictionaryId.{DictionaryId}
-use Rattle.intaglio_frozen.specs.SetId.{first_kind, number_bytes, shard_bytes}
+use Rattle.intaglio_frozen.proofs.Names.{with_keys, DictionaryId, first_kind, number_bytes, shard_bytes}
+use Rattle.std.specs.Hash.DefaultHasher.{write}
 use Rattle.intaglio_frozen.proofs.Hashed.{next_item, written_behind}
 use Rattle.intaglio_frozen.proofs.set_id.hash_shards.Goals as goal
 

@@ -1,7 +1,7 @@
 -- What the other shards write.
 use Rattle.std.proofs.Common.{◌≡◌, drop, flat_map}
-use Rattle.std.specs.Hash.DefaultHasher.{with_keys, write}
-use Rattle.intaglio_frozen.specs.SetId.{shard_bytes, shards_bytes}
+use Rattle.intaglio_frozen.proofs.Names.{with_keys, shard_bytes, shards_bytes}
+use Rattle.std.specs.Hash.DefaultHasher.{write}
 use Rattle.intaglio_frozen.proofs.set_id.hash_shards.Given as goal
 
 abbrev pub invariant-loop-id : goal.invariant-loop-id

@@ -1,6 +1,6 @@
-use Rattle.std.proofs.Common.{◌∙◌, ap}
+use Rattle.std.proofs.Common.{◌∙◌}
 use Rattle.std.specs.Hash.DefaultHasher.{write}
-use Rattle.intaglio_frozen.specs.SetId.{number_bytes}
+use Rattle.intaglio_frozen.proofs.Names.{number_bytes}
 use Rattle.intaglio_frozen.proofs.Hashed.{write_behind}
 use Rattle.intaglio_frozen.proofs.set_id.write_two.Goals as goal
 

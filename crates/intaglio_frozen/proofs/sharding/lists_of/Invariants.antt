@@ -1,6 +1,6 @@
 -- The shards so far.
 use Rattle.std.proofs.Common.{◌≡◌, ◌≤◌, map, vec_len, vec_capacity}
-use Rattle.intaglio_frozen.specs.Shards.{first_shards}
+use Rattle.intaglio_frozen.proofs.Names.{first_shards}
 use Rattle.intaglio_frozen.proofs.sharding.lists_of.Given as goal
 
 abbrev pub invariant-loop-number : goal.invariant-loop-number

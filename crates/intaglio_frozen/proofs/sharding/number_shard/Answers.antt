@@ -1,7 +1,5 @@
-use Rattle.std.proofs.lemmas.Grind.{common_steps}
+use Rattle.intaglio_frozen.proofs.Names.{common_steps, length-map, slice_get-get_or}
 use Rattle.std.proofs.Common.{◌≡◌, ◌∙◌, ◌<◌, [], ◌∷◌, ◌+◌, ap, arith, get_or, length, length-append, sym}
-use Rattle.std.proofs.lemmas.List.{length-map}
-use Rattle.std.proofs.lemmas.Option.{slice_get-get_or}
 use Rattle.intaglio_frozen.specs.Shards.{shard_of}
 use Rattle.intaglio_frozen.proofs.Numbered.{so_far, far_few, far_in, far_length, far_out, last_places, places_in, places_out}
 use Rattle.intaglio_frozen.proofs.sharding.number_shard.Goals as goal

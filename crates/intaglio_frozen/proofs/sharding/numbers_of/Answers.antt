@@ -1,5 +1,5 @@
 use Rattle.std.proofs.Common.{◌≡◌, ◌∙◌, ap, arith, length}
-use Rattle.std.proofs.lemmas.List.{length-map}
+use Rattle.intaglio_frozen.proofs.Names.{length-map}
 use Rattle.intaglio_frozen.specs.Shards.{shard_of}
 use Rattle.intaglio_frozen.proofs.Numbered.{numbered_map}
 use Rattle.intaglio_frozen.proofs.sharding.numbers_of.Goals as goal

@@ -1,6 +1,6 @@
 -- The strings of the shards so far have their places.
 use Rattle.std.proofs.Common.{◌≡◌, length}
-use Rattle.intaglio_frozen.specs.Shards.{AreNumbered, first_shards, joined}
+use Rattle.intaglio_frozen.proofs.Names.{AreNumbered, first_shards, joined}
 use Rattle.intaglio_frozen.proofs.sharding.numbers_of.Given as goal
 
 abbrev pub invariant-loop-number : goal.invariant-loop-number

@@ -1,4 +1,4 @@
-use Rattle.std.proofs.lemmas.Grind.{common_steps}
+use Rattle.intaglio_frozen.proofs.Names.{common_steps}
 use Rattle.std.proofs.Common.{◌≡◌, ◌∙◌, ◌<◌, ◌++◌, [], ◌∷◌, rules, arith}
 use Rattle.intaglio_frozen.specs.Shards.{shard_of}
 use Rattle.intaglio_frozen.proofs.HashedAhead.{take_there}

@@ -1,6 +1,6 @@
 -- The strings so far that belong to the shard.
 use Rattle.std.proofs.Common.{◌≡◌, map, take}
-use Rattle.intaglio_frozen.specs.Shards.{shard}
+use Rattle.intaglio_frozen.proofs.Names.{shard}
 use Rattle.intaglio_frozen.proofs.sharding.strings_of.Given as goal
 
 abbrev pub invariant-loop-i : goal.invariant-loop-i

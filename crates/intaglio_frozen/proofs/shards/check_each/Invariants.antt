@@ -1,8 +1,6 @@
 -- The strings of the shards so far belong to them, and no two of a shard are equal.
 use Rattle.std.proofs.Common.{◌≡◌, ℕ, List, ◌<◌, Some, slice_get}
-use Rattle.intaglio_interner.specs.State.{Distinct}
-use Rattle.intaglio_frozen.specs.Merging.{string_key}
-use Rattle.intaglio_frozen.specs.Shards.{BelongTo}
+use Rattle.intaglio_frozen.proofs.Names.{Distinct, string_key, BelongTo}
 use Rattle.intaglio_frozen.proofs.shards.check_each.Given as goal
 
 abbrev pub invariant-loop-shard : goal.invariant-loop-shard

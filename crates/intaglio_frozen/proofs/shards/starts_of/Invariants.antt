@@ -1,7 +1,6 @@
 -- The shards so far begin where the others end.
 use Rattle.std.proofs.Common.{◌≡◌, ◌≤◌, length, take, vec_len, vec_capacity}
-use Rattle.intaglio_frozen.specs.Merging.{missing}
-use Rattle.intaglio_frozen.specs.Shards.{joined, starts_from}
+use Rattle.intaglio_frozen.proofs.Names.{missing, joined, starts_from}
 use Rattle.intaglio_frozen.proofs.shards.starts_of.Given as goal
 
 abbrev pub invariant-loop-i : goal.invariant-loop-i

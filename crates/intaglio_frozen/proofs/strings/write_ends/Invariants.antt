@@ -1,7 +1,7 @@
 -- What the ends of the other strings write.
 use Rattle.std.proofs.Common.{◌≡◌, drop}
 use Rattle.std.specs.Hash.DefaultHasher.{write}
-use Rattle.intaglio_frozen.specs.Id.{end_bytes}
+use Rattle.intaglio_frozen.proofs.Names.{end_bytes}
 use Rattle.intaglio_frozen.proofs.strings.write_ends.Given as goal
 
 abbrev pub invariant-loop-i : goal.invariant-loop-i

@@ -1,6 +1,6 @@
 -- What the other strings write.
 use Rattle.std.proofs.Common.{◌≡◌, drop}
-use Rattle.std.specs.List.{concat}
+use Rattle.intaglio_frozen.proofs.Names.{concat}
 use Rattle.std.specs.Hash.DefaultHasher.{write}
 use Rattle.intaglio_frozen.proofs.strings.write_texts.Given as goal
 

@@ -1,5 +1,5 @@
 use Rattle.std.proofs.Common.{◌∙◌, ℕ, inl, inr, get_or, arith}
-use Rattle.std.proofs.lemmas.Bool.{cases_eq}
+use Rattle.intaglio_frozen.proofs.Names.{cases_eq}
 use Rattle.intaglio_frozen.proofs.stuck.has_pilot.Goals as goal
 
 pub loop-pilot-preserved : goal.loop-pilot-preserved

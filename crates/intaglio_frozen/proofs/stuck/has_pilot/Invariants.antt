@@ -1,6 +1,5 @@
 use Rattle.std.proofs.Common.{◌≡◌, ℕ, ◌<◌, length, get_or}
-use Rattle.intaglio_frozen.specs.Stuck.{HasNoPlace}
-use Rattle.intaglio_frozen.specs.Marks.{AreMarked}
+use Rattle.intaglio_frozen.proofs.Names.{HasNoPlace, AreMarked}
 use Rattle.intaglio_frozen.proofs.stuck.has_pilot.Given as goal
 
 abbrev pub invariant-loop-pilot : goal.invariant-loop-pilot

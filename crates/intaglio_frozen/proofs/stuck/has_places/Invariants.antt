@@ -1,5 +1,5 @@
 use Rattle.std.proofs.Common.{◌≡◌, ℕ, length}
-use Rattle.intaglio_frozen.specs.Marks.{AreMarked}
+use Rattle.intaglio_frozen.proofs.Names.{AreMarked}
 use Rattle.intaglio_frozen.proofs.Marked.{AreTried}
 use Rattle.intaglio_frozen.proofs.stuck.has_places.Given as goal
 

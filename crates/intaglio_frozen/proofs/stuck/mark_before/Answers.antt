@@ -1,6 +1,5 @@
-use Rattle.std.proofs.lemmas.Grind.{common_steps}
+use Rattle.intaglio_frozen.proofs.Names.{common_steps, IsBefore, place_under}
 use Rattle.std.proofs.Common.{◌∙◌, ℕ, ap, get_or, subst, sym, arith}
-use Rattle.intaglio_frozen.specs.Stuck.{IsBefore, place_under}
 use Rattle.intaglio_frozen.proofs.Marked.{marked_more}
 use Rattle.intaglio_frozen.proofs.stuck.mark_before.Goals.{then-is_before, else-is_before}
 use Rattle.intaglio_frozen.proofs.stuck.mark_before.Goals as goal

@@ -1,5 +1,5 @@
 use Rattle.std.proofs.Common.{◌≡◌, length, get_or}
-use Rattle.intaglio_frozen.specs.Marks.{AreMarked}
+use Rattle.intaglio_frozen.proofs.Names.{AreMarked}
 use Rattle.intaglio_frozen.proofs.stuck.mark_before.Given as goal
 
 abbrev pub invariant-loop-i : goal.invariant-loop-i

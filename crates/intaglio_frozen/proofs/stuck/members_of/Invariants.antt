@@ -1,5 +1,5 @@
 use Rattle.std.proofs.Common.{ℕ, ◌<◌, length, get_or}
-use Rattle.intaglio_frozen.specs.Marks.{AreMembers}
+use Rattle.intaglio_frozen.proofs.Names.{AreMembers}
 use Rattle.intaglio_frozen.proofs.stuck.members_of.Given as goal
 
 abbrev pub invariant-loop-i : goal.invariant-loop-i

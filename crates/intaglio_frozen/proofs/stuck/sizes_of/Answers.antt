@@ -1,7 +1,5 @@
-use Rattle.std.proofs.lemmas.Grind.{common_steps}
+use Rattle.intaglio_frozen.proofs.Names.{common_steps, get_or_default, length-take-le, count_by-le-length}
 use Rattle.std.proofs.Common.{◌∙◌, ◌+◌, ◌<◌, length-set, take, arith}
-use Rattle.std.proofs.lemmas.List.{get_or_default, length-take-le}
-use Rattle.std.proofs.lemmas.List.Sums.{count_by-le-length}
 use Rattle.intaglio_frozen.proofs.Marked.{is_in, counted_more}
 use Rattle.intaglio_frozen.proofs.stuck.sizes_of.Goals as goal
 

@@ -1,5 +1,5 @@
 use Rattle.std.proofs.Common.{◌≡◌, ℕ, ◌<◌, length, get_or, take, count_by}
-use Rattle.intaglio_frozen.specs.Layout.{groups_for}
+use Rattle.intaglio_frozen.proofs.Names.{groups_for}
 use Rattle.intaglio_frozen.proofs.Marked.{is_in}
 use Rattle.intaglio_frozen.proofs.stuck.sizes_of.Given as goal
 

@@ -1,5 +1,5 @@
 use Rattle.std.proofs.Common.{ℕ, ◌<◌, get_or, IsCharBoundary}
-use Rattle.intaglio_frozen.specs.Layout.{ends}
+use Rattle.intaglio_frozen.proofs.Names.{ends}
 use Rattle.intaglio_frozen.proofs.block.Block.has_char_ends.Given as goal
 
 abbrev pub invariant-loop-i : goal.invariant-loop-i

@@ -1,6 +1,5 @@
 use Rattle.std.proofs.Common.{◌≡◌, ℕ, ◌<◌, ◌≤◌}
-use Rattle.intaglio_frozen.specs.Layout.{symbol_of, tag_of}
-use Rattle.intaglio_frozen.specs.IsFrozen.{no_symbol, used_below}
+use Rattle.intaglio_frozen.proofs.Names.{symbol_of, tag_of, no_symbol, used_below}
 use Rattle.intaglio_frozen.proofs.block.Block.has_unused.Given as goal
 
 abbrev pub invariant-loop-place : goal.invariant-loop-place

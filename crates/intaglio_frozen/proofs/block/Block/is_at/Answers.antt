@@ -1,6 +1,5 @@
 use Rattle.std.proofs.Common.{◌≡◌, [], get_or, ◌∙◌}
-use Rattle.std.proofs.lemmas.Bool.{eqb-true, eqb-false}
-use Rattle.std.proofs.lemmas.Option.{slice_get-get_or}
+use Rattle.intaglio_frozen.proofs.Names.{eqb-true, eqb-false, slice_get-get_or}
 use Rattle.intaglio_frozen.proofs.Found.{found_same, found_other}
 use Rattle.intaglio_frozen.specs.Layout.{strings}
 use Rattle.intaglio_frozen.proofs.block.Block.is_at.Goals as goal

@@ -1,6 +1,6 @@
 use Rattle.std.proofs.Common.{◌≡◌, drop, ◌∙◌, IsUtf8}
 use Rattle.intaglio_frozen.proofs.Places.{texts_between}
-use Rattle.intaglio_frozen.specs.Layout.{text_at}
+use Rattle.intaglio_frozen.proofs.Names.{text_at}
 use Rattle.intaglio_frozen.proofs.block.Block.is_text.Goals as goal
 
 pub returns : goal.returns

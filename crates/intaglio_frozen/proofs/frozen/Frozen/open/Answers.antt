@@ -1,6 +1,5 @@
 use Rattle.std.proofs.Common.{rules, ◌≡◌, false, true, inr, subst}
-use Rattle.intaglio_frozen.specs.Identity.{HasId}
-use Rattle.intaglio_frozen.specs.IsFrozen.{IsFrozen}
+use Rattle.intaglio_frozen.proofs.Names.{HasId, IsFrozen}
 use Rattle.intaglio_frozen.proofs.frozen.Frozen.open.Goals as goal
 
 pub returns-in-Some-first_no_text-clause-err : goal.returns-in-Some-first_no_text-clause-err

@@ -1,8 +1,5 @@
 use Rattle.std.proofs.Common.{◌≡◌, ◌∙◌, ◌^◌, ◌<◌, [], length, map, sym, rules, map-id}
-use Rattle.std.proofs.lemmas.Result.{err_from_is_err_and}
-use Rattle.intaglio_interner.specs.Batch.{IfOverflow}
-use Rattle.intaglio_interner.specs.Issue.{interned_all}
-use Rattle.intaglio_content.specs.Key.{packed_key}
+use Rattle.intaglio_frozen.proofs.Names.{err_from_is_err_and, IfOverflow, interned_all, packed_key}
 use Rattle.intaglio_frozen.proofs.Distinct.{all_interned, no_overflow}
 use Rattle.intaglio_frozen.proofs.frozen.Frozen.thaw.Goals as goal
 

@@ -1,6 +1,6 @@
 use Rattle.std.proofs.Common.{◌≡◌, ◌+◌, ◌-◌, ◌*◌, ◌<◌, sym, ap, ◌∙◌, arith}
 use Rattle.intaglio_hash.specs.Numbers.{u32_at}
-use Rattle.intaglio_frozen.specs.Layout.{count, ends_at}
+use Rattle.intaglio_frozen.proofs.Names.{count, ends_at}
 use Rattle.intaglio_frozen.proofs.Places.{end_is, start_is_end}
 use Rattle.intaglio_frozen.proofs.reader.Reader.start_of.Goals as goal
 

@@ -1,4 +1,4 @@
-use Rattle.std.proofs.lemmas.Grind.{common_steps}
+use Rattle.intaglio_frozen.proofs.Names.{common_steps}
 use Rattle.std.proofs.Common.{arith}
 use Rattle.intaglio_frozen.proofs.Places.{part_found}
 use Rattle.intaglio_frozen.proofs.reader.Reader.string.Goals as goal

@@ -1,8 +1,6 @@
 -- What was found of the strings so far.
 use Rattle.std.proofs.Common.{◌≡◌, ◌≤◌, length, map, take, vec_len, vec_capacity}
-use Rattle.intaglio_interner.specs.State.{first}
-use Rattle.intaglio_frozen.specs.Merging.{string_key}
-use Rattle.intaglio_frozen.specs.Shards.{joined}
+use Rattle.intaglio_frozen.proofs.Names.{first, string_key, joined}
 use Rattle.intaglio_frozen.proofs.shards.Shards.check_all.Given as goal
 
 abbrev pub invariant-loop-i : goal.invariant-loop-i

@@ -1,7 +1,5 @@
-use Rattle.std.proofs.lemmas.Grind.{common_steps}
+use Rattle.intaglio_frozen.proofs.Names.{common_steps, slice_get_read, joined}
 use Rattle.std.proofs.Common.{◌≡◌, ◌-◌, ◌+◌, Some, ap, arith, length, slice_get}
-use Rattle.std.proofs.lemmas.Option.{slice_get_read}
-use Rattle.intaglio_frozen.specs.Shards.{joined}
 use Rattle.intaglio_frozen.proofs.Sharded.{all_taken, start_read}
 use Rattle.intaglio_frozen.proofs.shards.Shards.len.Goals as goal
 
