@@ -17,7 +17,7 @@ pub record IsTally (n : ℕ) (cs : List ℕ) (i : ℕ) (counts : List ℕ) (gone
   pub few_missing : gone ≤ i
   pub all : AreCodes n cs → sum counts + gone ≡ i
 
-module _ (n : ℕ) (cs : List ℕ) (i : ℕ) (counts : List ℕ) (gone c : ℕ) (at : slice_get cs i ≡ Some c)
+module _ {n : ℕ} {cs : List ℕ} {i : ℕ} {counts : List ℕ} {gone c : ℕ} (at : slice_get cs i ≡ Some c)
     (before : IsTally n cs i counts gone) where
   is : get_or cs i 0 ≡ c
   is = get_or_from_slice_get cs i c 0 at

@@ -36,25 +36,25 @@ cond-behind : (n m l : ℕ) →
 cond-behind n m l = grind (arith, common_steps)
 
 -- if the first n bytes have no byte 10, the first one of all is n further on than in the bytes behind those
-pub position-behind : (bytes : List ℕ) (n : ℕ) → n ≤ length bytes →
+pub position-behind : (bytes : List ℕ) (n : ℕ) (end : Option ℕ) → n ≤ length bytes →
     position (λ b. eqb b 10) (take n bytes) ≡ None
-    → position (λ b. eqb b 10) bytes ≡ option_map (λ k. n + k) (position (λ b. eqb b 10) (drop n bytes))
-position-behind bytes n within none =
+    → end ≡ position (λ b. eqb b 10) (take (length bytes - n) (drop n bytes))
+    → position (λ b. eqb b 10) bytes ≡ option_map (λ k. n + k) end
+position-behind bytes n end within none place =
     let q : ℕ → Bool = λ b. not (eqb b 10) in
     let first : prefix_len q (take n bytes) ≡ length (take n bytes) =
     position-None (λ b. eqb b 10) (take n bytes) none in
     let long : length (take n bytes) ≡ n = omega (arith, length-take n bytes) in
     let past : eqb (prefix_len q (take n bytes)) (length (take n bytes)) ≡ true = eq-eqb _ _ first in
     let all : prefix_len q bytes ≡ n + prefix_len q (drop n bytes) =
-    ap (prefix_len q) (sym (take-append-drop n bytes)) ∙ prefix_len-append q (take n bytes) (drop n bytes)
-    ∙ ap (λ t. cond t (length (take n bytes) + prefix_len q (drop n bytes)) (prefix_len q (take n bytes)))
-    past
-    ∙ ap (λ t. t + prefix_len q (drop n bytes)) long in
+    ap (prefix_len q) (sym (take-append-drop n bytes))
+    ∙ rw (prefix_len-append q (take n bytes) (drop n bytes), past, long) refl in
     let size : length bytes ≡ n + length (drop n bytes) = omega (arith, length-drop n bytes) in
     ap (λ t. cond (ltb t (length bytes)) (Some t) None) all
     ∙ ap (λ t. cond (ltb (n + prefix_len q (drop n bytes)) t) (Some (n + prefix_len q (drop n bytes))) None)
     size
     ∙ cond-behind n (prefix_len q (drop n bytes)) (length (drop n bytes))
+    ∙ ap (option_map (λ k. n + k)) (sym (rw (take_rest bytes n) at place))
 
 -- bytes that are at most one piece have no byte 10
 pub no-end : (bytes : List ℕ) → lines_of bytes ≡ last_piece bytes → position (λ b. eqb b 10) bytes ≡ None
@@ -92,11 +92,6 @@ codes-count bytes whole =
     let long : length bytes ≡ 4 * (length bytes / 4) = omega (arith, whole) in
     omega (arith, pieces-count bytes (length bytes / 4) long, length-map (code_pieces bytes) code_of, long)
 
--- the bytes of the code at a position
-module _ (a b c d : ℕ) (bytes : List ℕ) where
-  behind : (i j : ℕ) → j ≡ suc (suc (suc (suc i))) → get_or (a ∷ b ∷ c ∷ d ∷ bytes) j 0 ≡ get_or bytes i 0
-  behind i j e = rw e refl
-
 -- if there are at least 4 * n + 4 bytes, piece n has the four bytes from 4 * n on
 piece-at : (bytes : List ℕ) (n : ℕ) → 4 * n + 4 ≤ length bytes
     → slice_get (code_pieces bytes) n
@@ -108,12 +103,9 @@ piece-at (a ∷ b ∷ []) n within = absurd (omega arith)
 piece-at (a ∷ b ∷ c ∷ []) n within = absurd (omega arith)
 piece-at (a ∷ b ∷ c ∷ d ∷ bytes) zero within = refl
 piece-at (a ∷ b ∷ c ∷ d ∷ bytes) (suc n) within =
-    let rest = piece-at bytes n (omega arith) in
-    let first = behind a b c d bytes (4 * n) (4 * suc n) (omega arith) in
-    let second = behind a b c d bytes (4 * n + 1) (4 * suc n + 1) (omega arith) in
-    let third = behind a b c d bytes (4 * n + 2) (4 * suc n + 2) (omega arith) in
-    let fourth = behind a b c d bytes (4 * n + 3) (4 * suc n + 3) (omega arith) in
-    rw (first, second, third, fourth) rest
+    let same : 4 * suc n ≡ suc (suc (suc (suc (4 * n)))) = omega arith in
+    let at : (j : ℕ) → 4 * suc n + j ≡ suc (suc (suc (suc (4 * n + j)))) = λ j. omega arith in
+    rw (at 1, at 2, at 3, same) (piece-at bytes n (omega arith))
 
 -- if there are at least 4 * n + 4 bytes, code n is that of the four bytes from 4 * n on
 pub code-at : (bytes : List ℕ) (n : ℕ) → 4 * n + 4 ≤ length bytes

@@ -1,13 +1,13 @@
 -- Groups of lines at the front of bytes.
-use Rattle.std.proofs.Common.{◌≡◌, ◌∙◌, sym, ap, refl, ℕ, zero, suc, ◌+◌, ◌-◌, ◌^◌, ◌<◌, min, Bool, true, false, List, [], ◌∷◌, ◌++◌, length, map, take, drop, drop-cons, get_or, Some, append_assoc, length-append, arith}
+use Rattle.std.proofs.Common.{◌≡◌, ◌∙◌, sym, ap, refl, subst, ℕ, zero, suc, ◌+◌, ◌-◌, ◌^◌, ◌<◌, min, Bool, true, false, List, [], ◌∷◌, ◌++◌, length, map, take, drop, drop-cons, get_or, Some, append_assoc, length-append, arith}
 use Rattle.std.specs.List.{slice_get}
 use Rattle.std.proofs.lemmas.List.{get_or-map, length-take, take-append-drop}
 use Rattle.std.proofs.lemmas.List.Elements.{All-nil, All-cons, All-append}
 use Rattle.std.proofs.lemmas.Option.{slice_get_within, get_or_from_slice_get}
 use Rattle.intaglio_columns.specs.Translation.{AllFit, ReportsAmong, ReportsPiece}
 use Rattle.intaglio_columns.specs.declared.translate.TranslateError.{TranslateError}
-use Rattle.intaglio_columns.specs.declared.translate.TranslateError.TheVariants.{Misfit, Stream}
 use Rattle.intaglio_columns.proofs.Listed.{next}
+use Rattle.intaglio_columns.proofs.Parts.{reports-at}
 
 module _ (fits : List ℕ → Bool) (xs : List (List ℕ)) (i : ℕ) (x : List ℕ) (at : slice_get xs i ≡ Some x) where
   -- the pieces so far can be translated, and the next one
@@ -24,32 +24,12 @@ module _ (fits : List ℕ → Bool) (xs : List (List ℕ)) (i : ℕ) (x : List �
       ∙ ap (λ v. take i xs ++ v ∷ drop (suc i) xs) value
 
   -- the next one can't, and is the first
-  pub misfit-next : (number position size : ℕ) → AllFit fits (take i xs) → fits x ≡ false →
-      position ≡ min (number + i) (2 ^ 64 - 1) → size ≡ length x
-      → ReportsAmong fits (Misfit position size) xs number
-  misfit-next number position size before unfit place long front more fit counted = record {
-    before = front ++ take i xs;
-    misfit = x;
-    after = drop (suc i) xs ++ more;
-    parts = ap (λ t. front ++ (t ++ more)) all ∙ simp append_assoc;
-    fit = All-append (λ p. fits p ≡ true) front (take i xs) fit before;
-    unfit = unfit;
-    place = omega (
-      arith,
-      place,
-      counted,
-      length-append front (take i xs),
-      length-take i xs,
-      slice_get_within xs i x at,
-    );
-    long = long;
-  }
-
   pub reports-next : (e : TranslateError) (number here : ℕ) → AllFit fits (take i xs) →
       here ≡ min (number + i) (2 ^ 64 - 1) → ReportsPiece fits e x here → ReportsAmong fits e xs number
-  reports-next (Misfit position size) number here before place reports =
-      misfit-next number position size before reports.0 (reports.1 ∙ place) reports.2
-  reports-next (Stream failure) number here before place reports = λ front more fit counted. tt
+  reports-next e number here before place reports =
+      subst (λ ps. ReportsAmong fits e ps number) (sym all)
+      (reports-at fits e (take i xs) x (drop (suc i) xs) number here before
+      (omega (arith, place, length-take i xs, slice_get_within xs i x at)) reports)
 
 -- an item of a list that is mapped
 module _ {X : Type 0} where

@@ -50,31 +50,21 @@ pub held-append : (front lines : List ℕ) → is_ended front ≡ true →
     interned_all (λ w. w ∷ []) (distinct_lines front) (lines_of lines) ≡ distinct_lines (front ++ lines)
 held-append front lines ended = grind (arith, common_steps, interned_all-append, lines_of-append)
 
-module _ (kind : Kind) (is_kept : Bool) (front lines : List ℕ) (old new : State (List ℕ))
-    (symbols later : List ℕ) (count after : ℕ) (ended : is_ended front ≡ true)
-    (done : IsInterned kind is_kept front old symbols count) where
-  pub lines-interned : Allows kind lines →
-      new.contents ≡ interned_all (λ w. w ∷ []) old.contents (lines_of lines) → new.limit ≡ old.limit
+module _ {kind : Kind} {is_kept : Bool} {front : List ℕ} {old : State (List ℕ)} {symbols : List ℕ} {count : ℕ}
+    (ended : is_ended front ≡ true) (done : IsInterned kind is_kept front old symbols count) where
+  pub lines-interned : {new : State (List ℕ)} {later : List ℕ} {after : ℕ} (lines : List ℕ) →
+      Allows kind lines → new.contents ≡ interned_all (λ w. w ∷ []) old.contents (lines_of lines) →
+      new.limit ≡ old.limit
       → (is_kept ≡ true → later ≡ symbols ++ issue_from (λ w. w ∷ []) old.contents (lines_of lines)) →
       after ≡ min (count + length (lines_of lines)) (2 ^ 64 - 1)
       → IsInterned kind is_kept (front ++ lines) new later after
-  lines-interned allowed held limit issued counted = record {
-    held = held ∙ ap (λ t. interned_all (λ w. w ∷ []) t (lines_of lines)) done.held
-        ∙ held-append front lines ended;
+  lines-interned lines allowed held limit issued counted = record {
+    held = rw (held, done.held) (held-append front lines ended);
     limit = limit ∙ done.limit;
-    issued =
-        λ kept. rw (lines_of-append front lines ended) (issued kept
-        ∙ ap (λ t. t ++ issue_from (λ w. w ∷ []) old.contents (lines_of lines)) (done.issued kept)
-        ∙ ap (λ t. issue_from (λ w. w ∷ []) [] (lines_of front) ++ issue_from (λ w. w ∷ []) t
-        (lines_of lines)) done.held
-        ∙ sym (issue_from-append (λ w. w ∷ []) [] (lines_of front) (lines_of lines)));
-    counted = omega (
-      arith,
-      counted,
-      done.counted,
-      ap length (lines_of-append front lines ended),
-      length-append (lines_of front) (lines_of lines),
-    );
+    issued = λ kept. rw (issued kept, done.issued kept, done.held, lines_of-append front lines ended)
+        (sym (issue_from-append (λ w. w ∷ []) [] (lines_of front) (lines_of lines)));
+    counted =
+        rw (lines_of-append front lines ended) (omega (arith, counted, done.counted, length-append {A = List ℕ}));
     allowed = allows-append kind front lines done.allowed allowed;
   }
 
@@ -128,80 +118,66 @@ ended-take bytes (suc n) some within ten =
     ended-last (byte ∷ []) = refl
     ended-last (byte ∷ next ∷ more) = ended-last (next ∷ more)
 
-module _ (kind : Kind) (is_kept : Bool) where
-  pub none-interned : (input : Option (List ℕ)) (state : State (List ℕ)) (symbols : List ℕ) (count : ℕ) →
-      IsInterned kind is_kept [] state symbols count
-      → HasInterned kind is_kept input input [] state symbols count
-  none-interned input state symbols count done = record {
-    front = [];
-    ended = refl;
-    read = Consumes-nil input;
-    done = done;
+pub none-interned : {kind : Kind} {is_kept : Bool} (input : Option (List ℕ)) {state : State (List ℕ)}
+    {symbols : List ℕ} {count : ℕ} → IsInterned kind is_kept [] state symbols count
+    → HasInterned kind is_kept input input [] state symbols count
+none-interned input done = record { front = []; ended = refl; read = Consumes-nil input; done = done }
+
+-- what holds of all that was read and what is left holds of the input
+of-whole : (P : List ℕ → Type 0) (input left : Option (List ℕ)) (before : List ℕ) →
+    Consumes input left before → ((rest : List ℕ) → (IsAtEnd left → rest ≡ []) → P (before ++ rest)) →
+    IfSome input P
+of-whole P None left before read holds = tt
+of-whole P (Some input) None before read holds = absurd read
+of-whole P (Some input) (Some rest) before read holds = subst P (sym read) (holds rest (λ end. end))
+
+module _ {kind : Kind} {is_kept : Bool} {input left : Option (List ℕ)} {bytes : List ℕ}
+    {state : State (List ℕ)} {symbols : List ℕ} {count : ℕ}
+    (has : HasInterned kind is_kept input left bytes state symbols count) where
+  pub more-read : {later : Option (List ℕ)} {after : List ℕ} → ReadsMore left later bytes after →
+      HasInterned kind is_kept input later after state symbols count
+  more-read {later} reads = record {
+    front = has.front;
+    ended = has.ended;
+    read = subst (Consumes input later) (append_assoc has.front bytes reads.0
+        ∙ ap (λ t. has.front ++ t) (sym reads.1))
+        (Consumes-trans input left later (has.front ++ bytes) reads.0 has.read reads.2);
+    done = has.done;
   }
 
-  module _ (input left : Option (List ℕ)) (bytes : List ℕ) (state : State (List ℕ)) (symbols : List ℕ)
-      (count : ℕ) (has : HasInterned kind is_kept input left bytes state symbols count) where
-    pub more-read : (later : Option (List ℕ)) (after : List ℕ) → ReadsMore left later bytes after →
-        HasInterned kind is_kept input later after state symbols count
-    more-read later after reads = record {
-      front = has.front;
-      ended = has.ended;
-      read = subst (Consumes input later) (append_assoc has.front bytes reads.0
-          ∙ ap (λ t. has.front ++ t) (sym reads.1))
-          (Consumes-trans input left later (has.front ++ bytes) reads.0 has.read reads.2);
-      done = has.done;
-    }
+  pub more-interned : {new : State (List ℕ)} {later : List ℕ} {after : ℕ} (n : ℕ) →
+      is_ended (take n bytes) ≡ true
+      → ((front : List ℕ) → is_ended front ≡ true → IsInterned kind is_kept front state symbols count →
+      IsInterned kind is_kept (front ++ take n bytes) new later after)
+      → HasInterned kind is_kept input left (drop n bytes) new later after
+  more-interned n end add = record {
+    front = has.front ++ take n bytes;
+    ended = ended-append has.front (take n bytes) has.ended end;
+    read = subst (Consumes input left) (ap (λ t. has.front ++ t) (sym (take-append-drop n bytes))
+        ∙ sym (append_assoc has.front (take n bytes) (drop n bytes))) has.read;
+    done = add has.front has.ended has.done;
+  }
 
-    pub more-interned : (n : ℕ) (new : State (List ℕ)) (later : List ℕ) (after : ℕ) →
-        is_ended (take n bytes) ≡ true
-        → ((front : List ℕ) → is_ended front ≡ true → IsInterned kind is_kept front state symbols count →
-        IsInterned kind is_kept (front ++ take n bytes) new later after)
-        → HasInterned kind is_kept input left (drop n bytes) new later after
-    more-interned n new later after end add = record {
-      front = has.front ++ take n bytes;
-      ended = ended-append has.front (take n bytes) has.ended end;
-      read = subst (Consumes input left) (ap (λ t. has.front ++ t) (sym (take-append-drop n bytes))
-          ∙ sym (append_assoc has.front (take n bytes) (drop n bytes))) has.read;
-      done = add has.front has.ended has.done;
-    }
+  pub all-interned : IsAtEnd left → (new : State (List ℕ)) (later : List ℕ) (after : ℕ)
+      → ((front : List ℕ) → is_ended front ≡ true → IsInterned kind is_kept front state symbols count →
+      IsInterned kind is_kept (front ++ bytes) new later after)
+      → IfSome input (λ input. IsInterned kind is_kept input new later after)
+  all-interned end new later after add = of-whole _ input left _ has.read (λ rest is.
+      rw (is end, append-nil (has.front ++ bytes)) (add has.front has.ended has.done))
 
-    -- what holds of all that was read and what is left holds of the input
-    of-whole : (P : List ℕ → Type 0) (input left : Option (List ℕ)) (before : List ℕ) →
-        Consumes input left before → ((rest : List ℕ) → (IsAtEnd left → rest ≡ []) → P (before ++ rest)) →
-        IfSome input P
-    of-whole P None left before read holds = tt
-    of-whole P (Some input) None before read holds = absurd read
-    of-whole P (Some input) (Some rest) before read holds = subst P (sym read) (holds rest (λ end. end))
+  -- what is said of lines at the front of the bytes, whatever comes before and behind, is said of the input
+  pub said-of-lines : (P : List ℕ → Type 0) (n : ℕ) → is_ended (take n bytes) ≡ true
+      → ((front rest : List ℕ) → is_ended front ≡ true → (is_ended (take n bytes) ≡ true) ⊎ (rest ≡ []) →
+      IsInterned kind is_kept front state symbols count → P (front ++ (take n bytes ++ rest)))
+      → IfSome input P
+  said-of-lines P n end says = of-whole P input left (has.front ++ bytes) has.read (λ rest is.
+      subst P (ap (λ t. has.front ++ t) (sym (append_assoc (take n bytes) (drop n bytes) rest)
+      ∙ ap (λ t. t ++ rest) (take-append-drop n bytes)) ∙ sym (append_assoc has.front bytes rest))
+      (says has.front (drop n bytes ++ rest) has.ended (inl end) has.done))
 
-    pub all-interned : IsAtEnd left → (new : State (List ℕ)) (later : List ℕ) (after : ℕ)
-        → ((front : List ℕ) → is_ended front ≡ true → IsInterned kind is_kept front state symbols count →
-        IsInterned kind is_kept (front ++ bytes) new later after)
-        → IfSome input (λ input. IsInterned kind is_kept input new later after)
-    all-interned end new later after add =
-        of-whole (λ input. IsInterned kind is_kept input new later after) input left
-        (has.front ++ bytes) has.read
-        (λ rest is.
-        subst (λ t. IsInterned kind is_kept t new later after) (sym (append-nil (has.front ++ bytes))
-        ∙ ap (λ t. (has.front ++ bytes) ++ t) (sym (is end)))
-        (add has.front has.ended has.done))
-
-    -- what is said of lines at the front of the bytes, whatever comes before and behind, is said of the input
-    pub said-of-lines : (P : List ℕ → Type 0) (n : ℕ) → is_ended (take n bytes) ≡ true
-        → ((front rest : List ℕ) → is_ended front ≡ true → (is_ended (take n bytes) ≡ true) ⊎ (rest ≡ []) →
-        IsInterned kind is_kept front state symbols count → P (front ++ (take n bytes ++ rest)))
-        → IfSome input P
-    said-of-lines P n end says =
-        of-whole P input left (has.front ++ bytes) has.read
-        (λ rest is.
-        subst P (ap (λ t. has.front ++ t) (sym (append_assoc (take n bytes) (drop n bytes) rest)
-        ∙ ap (λ t. t ++ rest) (take-append-drop n bytes)) ∙ sym (append_assoc has.front bytes rest))
-        (says has.front (drop n bytes ++ rest) has.ended (inl end) has.done))
-
-    pub said-of-last : (P : List ℕ → Type 0) → IsAtEnd left
-        → ((front rest : List ℕ) → is_ended front ≡ true → (is_ended bytes ≡ true) ⊎ (rest ≡ []) →
-        IsInterned kind is_kept front state symbols count → P (front ++ (bytes ++ rest))) → IfSome input P
-    said-of-last P end says =
-        of-whole P input left (has.front ++ bytes) has.read
-        (λ rest is.
-        subst P (sym (append_assoc has.front bytes rest))
-        (says has.front rest has.ended (inr (is end)) has.done))
+  pub said-of-last : (P : List ℕ → Type 0) → IsAtEnd left
+      → ((front rest : List ℕ) → is_ended front ≡ true → (is_ended bytes ≡ true) ⊎ (rest ≡ []) →
+      IsInterned kind is_kept front state symbols count → P (front ++ (bytes ++ rest))) → IfSome input P
+  said-of-last P end says = of-whole P input left (has.front ++ bytes) has.read (λ rest is.
+      subst P (sym (append_assoc has.front bytes rest))
+      (says has.front rest has.ended (inr (is end)) has.done))

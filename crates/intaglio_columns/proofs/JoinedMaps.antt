@@ -1,9 +1,10 @@
 -- Maps in columns, as one map.
 use Rattle.std.proofs.lemmas.Grind.{common_steps}
-use Rattle.std.proofs.Common.{◌≡◌, ◌≢◌, ◌∙◌, ◌==◌, sym, ap, refl, ℕ, zero, suc, ◌+◌, ◌<◌, ◌≤◌, Bool, true, false, cond, List, [], ◌∷◌, ◌++◌, get_or, length, map, take, Some, inl, inr, append_assoc, length-append, arith}
+use Rattle.std.proofs.Common.{◌≡◌, ◌≢◌, ◌∙◌, ◌==◌, sym, ap, refl, ℕ, zero, suc, ◌+◌, ◌<◌, ◌≤◌, Bool, true, false, cond, List, [], ◌∷◌, ◌++◌, get_or, length, map, take, Some, inl, inr, append_assoc, length-append, arith, eq-eqb}
 use Rattle.std.specs.List.{slice_get, All}
 use Rattle.std.proofs.lemmas.List.{length-map, map-append}
-use Rattle.std.proofs.lemmas.Option.{slice_get-get_or}
+use Rattle.std.proofs.lemmas.Bool.{true≢false}
+use Rattle.std.proofs.lemmas.Option.{get_or_from_slice_get, slice_get-get_or, slice_get_within}
 use Rattle.intaglio_frozen.specs.Shards.{AreWithin, joined, joined_map, sum_of}
 use Rattle.intaglio_frozen.proofs.Joined.{map-push}
 use Rattle.intaglio_columns.proofs.CodesInFile.{all_length}
@@ -13,6 +14,7 @@ use Rattle.intaglio_columns.specs.Width.{missing}
 use Rattle.intaglio_columns.specs.Joining.{IsMapColumn}
 use Rattle.intaglio_columns.specs.Renumbering.{joined_codes}
 use Rattle.intaglio_columns.proofs.Listed.{next}
+use Rattle.intaglio_columns.proofs.Unknown.{none_pass}
 
 -- one number more was added
 pub added-next : (ns : List ℕ) (i n : ℕ) → slice_get ns i ≡ Some n → (start : ℕ)
@@ -26,19 +28,13 @@ added-next ns i n at start before held items is more =
     more ∙ ap (λ t. t ++ (start + n) ∷ []) is
     ∙ append_assoc before (map plus (take i ns)) ((start + n) ∷ []) ∙ ap (λ t. before ++ t) (sym longer)
 
--- no row is listed only if the first isn't
-first-other : (b : Bool) (row : ℕ) (rest : List ℕ) → cond b (row ∷ rest) rest ≡ [] →
-    (b ≡ false) × (rest ≡ [])
-first-other true row rest none = cc
-first-other false row rest none = (refl, none)
-
 -- where no row is missing, no code is the missing one
-none-missing : (row : ℕ) (cs : List ℕ) → rows_from (λ c. c == missing) row cs ≡ [] → (i code : ℕ) →
+none-missing : (cs : List ℕ) → rows_from (λ c. c == missing) 0 cs ≡ [] → (i code : ℕ) →
     slice_get cs i ≡ Some code → code ≢ missing
-none-missing row [] none i code at = cc
-none-missing row (c ∷ cs) none zero code at = grind (arith, common_steps)
-none-missing row (c ∷ cs) none (suc i) code at =
-    none-missing (row + 1) cs (first-other (c == missing) row _ none).1 i code at
+none-missing cs none i code at same =
+    let other = none_pass (λ c. c == missing) cs none i (slice_get_within cs i code at) in
+    let is = get_or_from_slice_get cs i code 0 at in
+    true≢false (sym (eq-eqb (get_or cs i 0) missing (is ∙ same)) ∙ other)
 
 -- each number of a map is that of a string
 pub below-at : (bs : List ℕ) → IsMapColumn bs → (i code : ℕ) → slice_get (codes bs) i ≡ Some code →
@@ -46,7 +42,7 @@ pub below-at : (bs : List ℕ) → IsMapColumn bs → (i code : ℕ) → slice_g
 below-at bs is i code at =
     elim (is.column.codes i code at) as (λ _. code < strings bs) [
       | inl below ↦ below
-      | inr same ↦ absurd (none-missing 0 (codes bs) (is.column.full is.source) i code at same)
+      | inr same ↦ absurd (none-missing (codes bs) (is.column.full is.source) i code at same)
     ]
 
 pub all-within : (maps : List (List ℕ)) → All IsMapColumn maps → AreWithin (map strings maps) (map codes maps)

@@ -5,7 +5,7 @@ use Rattle.std.proofs.lemmas.Bool.{cases_lt}
 use Rattle.std.proofs.lemmas.List.{get_or-drop}
 use Rattle.std.proofs.lemmas.Option.{slice_get-get_or, slice_get_within, get_or_from_slice_get}
 use Rattle.intaglio_columns.specs.Rows.{overlaid}
-use Rattle.intaglio_columns.proofs.Selected.{next}
+use Rattle.intaglio_columns.proofs.Listed.{next}
 
 -- one more, where there is a place for it
 pub overlaid_more : (ns : List ℕ) (n : ℕ) (places : List ℕ) → length ns < length places →

@@ -75,8 +75,3 @@ pub more_rows_of : (p : ℕ → Bool) (cs done all : List ℕ) (from row : ℕ) 
     → (done ++ row ∷ []) ++ rows_past p (row + 1) cs ≡ all
 more_rows_of p cs done all from row before is =
     append_assoc done (row ∷ []) (rows_past p (row + 1) cs) ∙ ap (λ t. done ++ t) (sym is.first) ∙ before
-
--- and all of them
-pub all_rows_of : (p : ℕ → Bool) (cs done all : List ℕ) (from : ℕ) → done ++ rows_past p from cs ≡ all →
-    rows_past p from cs ≡ [] → done ≡ all
-all_rows_of p cs done all from before none = sym (append-nil done) ∙ ap (λ t. done ++ t) (sym none) ∙ before

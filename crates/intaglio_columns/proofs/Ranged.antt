@@ -8,7 +8,7 @@ use Rattle.std.proofs.lemmas.Grind.{flat_map-append}
 use Rattle.std.proofs.lemmas.Bool.{cases_lt}
 use Rattle.std.proofs.lemmas.Option.{get_or_from_slice_get, slice_get-get_or}
 use Rattle.intaglio_columns.specs.Rows.{IsFirstRow, rows_from, rows_past}
-use Rattle.intaglio_columns.proofs.Past.{all_rows_of, more_rows_of}
+use Rattle.intaglio_columns.proofs.Past.{more_rows_of}
 use Rattle.intaglio_columns.proofs.Selected.{selected}
 use Rattle.intaglio_lines.specs.Output.{number_line}
 use Rattle.intaglio_lines.proofs.Appended.{Appends-append}
@@ -39,18 +39,13 @@ pub record HavePut (p : ℕ → Bool) (cs : List ℕ) (from : ℕ) (old new : Op
   pub parts : done ++ rows_past p from cs ≡ rows_from p 0 cs
   pub put : Appends old new (flat_map number_line done)
 
-module _ (p : ℕ → Bool) (cs : List ℕ) (old : Option (List ℕ)) where
+module _ {p : ℕ → Bool} {cs : List ℕ} {old : Option (List ℕ)} where
   pub none_put : HavePut p cs 0 old old
-  none_put = record {
-    done = [];
-    parts = refl;
-    put = Appends-nil old;
-  }
+  none_put = record { done = []; parts = refl; put = Appends-nil old }
 
-  pub row_put : (from row : ℕ) (mid new : Option (List ℕ)) → HavePut p cs from old mid →
-      IsFirstRow p from cs row → Appends mid new (number_line row)
-      → HavePut p cs (row + 1) old new
-  row_put from row mid new before is more =
+  pub row_put : {from row : ℕ} {mid : Option (List ℕ)} (new : Option (List ℕ)) → HavePut p cs from old mid →
+      IsFirstRow p from cs row → Appends mid new (number_line row) → HavePut p cs (row + 1) old new
+  row_put {from} {row} {mid} new before is more =
       let lines = flat_map-append number_line before.done (row ∷ [])
       ∙ ap (λ t. flat_map number_line before.done ++ t) (append-nil (number_line row)) in
       record {
@@ -58,11 +53,6 @@ module _ (p : ℕ → Bool) (cs : List ℕ) (old : Option (List ℕ)) where
         parts = more_rows_of p cs before.done (rows_from p 0 cs) from row before.parts is;
         put = rw lines (Appends-append old mid new _ _ before.put more);
       }
-
-  pub all_put : (from : ℕ) (new : Option (List ℕ)) → HavePut p cs from old new → rows_past p from cs ≡ [] →
-      Appends old new (flat_map number_line (rows_from p 0 cs))
-  all_put from new before left =
-      rw (← all_rows_of p cs before.done (rows_from p 0 cs) from before.parts left) before.put
 
 -- what stands for a range behind the last one
 abbrev pub no_range : RowRange
@@ -73,20 +63,11 @@ pub ranges-further : (n : ℕ) (cs : List ℕ) (ranges : List RowRange) → AreR
     (get_or ranges n no_range).last < length cs → AreRangesBefore (n + 1) cs ranges
 ranges-further n cs ranges before this = grind (arith, common_steps, cases_lt, get_or_from_slice_get)
 
--- the fault of a range, if those before it end at rows that are there
-has-fault : (strings : List (List ℕ)) (IsWhole : Type 0) (text : Option (List ℕ)) (cs : List ℕ)
-    (ranges : List RowRange) (n : ℕ) → n < length ranges → AreRangesBefore n cs ranges → (e : RowsError) →
-    IsRangeFault strings IsWhole text cs (get_or ranges n no_range) e
-    → HasRangeFault strings IsWhole text cs ranges e
-has-fault strings IsWhole text cs ranges n within before e fault = grind (arith, common_steps, slice_get-get_or)
-
--- it is that of all ranges
+-- the fault of a range, if those before it end at rows that are there, is that of all ranges
 pub fault-of-range : (strings : List (List ℕ)) (IsWhole : Type 0) (text : Option (List ℕ)) (cs : List ℕ)
     (ranges : List RowRange) (n : ℕ) → n < length ranges → AreRangesBefore n cs ranges → (e : RowsError) →
     IsRangeFault strings IsWhole text cs (get_or ranges n no_range) e
     → IsRowsFault strings IsWhole text cs ranges e
 fault-of-range strings IsWhole text cs ranges n within before (Stream failure) fault = fault
-fault-of-range strings IsWhole text cs ranges n within before (NoRow row) fault =
-    has-fault strings IsWhole text cs ranges n within before (NoRow row) fault
-fault-of-range strings IsWhole text cs ranges n within before (NoLine row) fault =
-    has-fault strings IsWhole text cs ranges n within before (NoLine row) fault
+fault-of-range strings IsWhole text cs ranges n within before (NoRow row) fault = grind (arith, common_steps, slice_get-get_or)
+fault-of-range strings IsWhole text cs ranges n within before (NoLine row) fault = grind (arith, common_steps, slice_get-get_or)

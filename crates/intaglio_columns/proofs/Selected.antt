@@ -1,14 +1,9 @@
 -- The rows that a test selects, among the codes so far.
 use Rattle.std.proofs.Common.{◌≡◌, ◌∙◌, ℕ, suc, ◌+◌, Bool, true, false, cond, List, [], ◌∷◌, ◌++◌, length, take, slice_get, Some, refl, ap, arith, length-take-le}
-use Rattle.std.proofs.lemmas.Grind.{take_at_read}
 use Rattle.std.proofs.lemmas.List.{append-nil}
 use Rattle.std.proofs.lemmas.Option.{slice_get_within, get_or_from_slice_get}
 use Rattle.intaglio_columns.specs.Rows.{rows_from}
-
--- the codes so far, and the next one
-pub next : (cs : List ℕ) (i c : ℕ) → slice_get cs i ≡ Some c → take (i + 1) cs ≡ take i cs ++ c ∷ []
-next cs i c at = (take_at_read cs i c (slice_get_within cs i c at)).1
-    ∙ ap (λ t. take i cs ++ t ∷ []) (get_or_from_slice_get cs i c c at)
+use Rattle.intaglio_columns.proofs.Listed.{next}
 
 -- putting a number in front of a list, or not, comes to the same before and after an append
 cond_append : (b : Bool) (k : ℕ) (xs ys : List ℕ) →

@@ -11,15 +11,6 @@ pub same_symbol : (a b : ℕ) → Some a ≡ Some b → a ≡ b
 same_symbol a b e = cc
 
 module _ (n : ℕ) (strings : List (List ℕ)) (IsWhole : Type 0) where
-  -- of no words none is
-  pub marked_none : (marks : List Bool) → length marks ≡ n →
-      ((symbol : ℕ) → get_or marks symbol false ≡ false) → AreMarked n strings IsWhole [] marks
-  marked_none marks long none = record {
-    long = long;
-    sound = λ symbol e. absurd (false≢true (sym (none symbol) ∙ e));
-    whole = λ holds symbol word among at small. absurd (omega (arith, among.1));
-  }
-
   module _ (words : List (List ℕ)) (w : List ℕ) (marks : List Bool)
       (before : AreMarked n strings IsWhole words marks) where
     kept : (symbol : ℕ) → get_or marks symbol false ≡ true → (word : List ℕ) × Contains (words ++ w ∷ []) word

@@ -1,6 +1,6 @@
-use Rattle.std.proofs.lemmas.Result.{err_from_is_err_and}
 use Rattle.intaglio_columns.specs.Layout.{codes, strings}
 use Rattle.intaglio_columns.proofs.Ranked.{fault_of_counts}
+use Rattle.intaglio_columns.proofs.Parts.{passed-on}
 use Rattle.intaglio_columns.proofs.counting.write_counts.Goals as goal
 
 pub returns-clause-written : goal.returns-clause-written
@@ -20,8 +20,7 @@ returns-in_err-lines-clause-err g c =
     let column = c.args.column.now in
     let order = rw c.deref.ensures.value at c.in-Ok-ranks_in_order.ensures in
     let fault = rw c.deref-3.ensures.value at c.in_err-lines.ensures.err in
-    let passed = err_from_is_err_and c.from_residual.result c.from_residual.ensures.1 in
-    rw (passed.1, passed.2)
+    passed-on _ c.from_residual.result _ c.from_residual.ensures.1
     (fault_of_counts (g.D.Dictionary.strings c.args.table.now) (g.D.Dictionary.is_whole c.args.table.now)
     (strings column) (codes column) c.in-Ok.counts.of.items
     c.in-Ok.counts.missing c.in-Ok-ranks_in_order.ordered.items c.args.by_symbol c.in_err-lines.field-0.0

@@ -1,74 +1,52 @@
 use Rattle.std.proofs.Common.{◌≡◌, true, take, rules}
 use Rattle.std.specs.Io.KnownBytes.{IsAtEnd}
-use Rattle.std.proofs.lemmas.Result.{err_from_is_err_and}
 use Rattle.intaglio_lines.specs.Decoded.{is_ended}
 use Rattle.intaglio_columns.specs.Frozen.{IsRefusal}
 use Rattle.intaglio_columns.proofs.Interned.{all-interned, allows-nothing, more-interned, more-read, none-interned, of-any, said-of-last, said-of-lines}
+use Rattle.intaglio_columns.proofs.Parts.{passed-on}
 use Rattle.intaglio_columns.proofs.interning.intern_input.Goals as goal
 
 pub loop-init : goal.loop-init
 loop-init g c =
     rw c.new-bytes.ensures.items (record {
-      has = none-interned c.args.kind c.args.is_kept (g.R.Read.remaining c.args.reader.now) _ _ _
+      has = none-interned (g.R.Read.remaining c.args.reader.now)
           (c.in_ok-made.ensures.none c.args.kind c.args.is_kept (allows-nothing c.args.kind));
     })
 
 pub returns-in_err-more-clause-err : goal.returns-in_err-more-clause-err
 returns-in_err-more-clause-err g c =
-    let passed =
-    err_from_is_err_and c.from_residual-in_err-more.result c.from_residual-in_err-more.ensures.1 in
-    rw (
-      passed.1,
-      passed.2,
-    )
+    passed-on _ c.from_residual-in_err-more.result _ c.from_residual-in_err-more.ensures.1
     (of-any (g.R.Read.remaining c.args.reader.now) (λ input.
     IsRefusal c.args.kind input c.in_err-more.field-0.0) (c.in_err-more.ensures.err c.args.kind))
 
 pub returns-in_err-add-clause-err : goal.returns-in_err-add-clause-err
 returns-in_err-add-clause-err g c =
-    let passed = err_from_is_err_and c.from_residual-in_err-add.result c.from_residual-in_err-add.ensures.1 in
-    let has =
-    more-read c.args.kind c.args.is_kept _ _ _ _ _ _ c.loop.invariant.has _ _ c.in_ok-more.ensures.read in
     let end : IsAtEnd (g.R.Read.remaining c.read_block.new.reader) = search rules in
-    rw (
-      passed.1,
-      passed.2,
-    )
-    (said-of-last c.args.kind c.args.is_kept _ _ _ _ _ _ has (λ input.
+    passed-on _ c.from_residual-in_err-add.result _ c.from_residual-in_err-add.ensures.1
+    (said-of-last (more-read c.loop.invariant.has c.in_ok-more.ensures.read) (λ input.
     IsRefusal c.args.kind input c.in_err-add.field-0.0) end
     (rw c.deref.ensures.value at c.in_err-add.ensures.err))
 
 pub returns-then-not-more-clause-interned : goal.returns-then-not-more-clause-interned
 returns-then-not-more-clause-interned g c =
-    let has =
-    more-read c.args.kind c.args.is_kept _ _ _ _ _ _ c.loop.invariant.has _ _ c.in_ok-more.ensures.read in
     let end : IsAtEnd (g.R.Read.remaining c.read_block.new.reader) = search rules in
-    all-interned c.args.kind c.args.is_kept _ _ _ _ _ _ has end _ _ _
+    all-interned (more-read c.loop.invariant.has c.in_ok-more.ensures.read) end _ _ _
     (rw c.deref.ensures.value at c.in_ok-add.ensures.added)
 
 pub returns-in_err-add-2-clause-err : goal.returns-in_err-add-2-clause-err
 returns-in_err-add-2-clause-err g c =
-    let passed =
-    err_from_is_err_and c.from_residual-in_err-add-2.result c.from_residual-in_err-add-2.ensures.1 in
-    let has =
-    more-read c.args.kind c.args.is_kept _ _ _ _ _ _ c.loop.invariant.has _ _ c.in_ok-more.ensures.read in
     let ended : is_ended (take c.size_of_lines-size.result c.read_block.new.bytes.items) ≡ true =
     search rules in
-    rw (
-      passed.1,
-      passed.2,
-    )
-    (said-of-lines c.args.kind c.args.is_kept _ _ _ _ _ _ has (λ input.
+    passed-on _ c.from_residual-in_err-add-2.result _ c.from_residual-in_err-add-2.ensures.1
+    (said-of-lines (more-read c.loop.invariant.has c.in_ok-more.ensures.read) (λ input.
     IsRefusal c.args.kind input c.in_err-add-2.field-0.0) _ ended
     (rw c.deref-in-loop-2.ensures.value at c.in_err-add-2.ensures.err))
 
 pub loop-preserved : goal.loop-preserved
 loop-preserved g c =
-    let has =
-    more-read c.args.kind c.args.is_kept _ _ _ _ _ _ c.loop.invariant.has _ _ c.in_ok-more.ensures.read in
     let ended : is_ended (take c.size_of_lines-size.result c.read_block.new.bytes.items) ≡ true =
     search rules in
     rw c.drop_front.ensures (record {
-      has = more-interned c.args.kind c.args.is_kept _ _ _ _ _ _ has _ _ _ _ ended
+      has = more-interned (more-read c.loop.invariant.has c.in_ok-more.ensures.read) _ ended
           (rw c.deref-in-loop-2.ensures.value at c.in_ok-add-2.ensures.added);
     })

@@ -1,12 +1,9 @@
-use Rattle.intaglio_columns.specs.Filter.{selects}
-use Rattle.intaglio_columns.specs.Layout.{codes}
 use Rattle.intaglio_columns.proofs.Ranged.{none_put, row_put}
 use Rattle.intaglio_columns.proofs.matching.put_selected.Goals as goal
 
 pub loop-row-init : goal.loop-row-init
-loop-row-init g c = none_put (selects c.args.filter.now) (codes c.args.column.now) _
+loop-row-init g c = none_put
 
 pub loop-row-preserved : goal.loop-row-preserved
 loop-row-preserved g c =
-    row_put (selects c.args.filter.now) (codes c.args.column.now) _ c.loop-row.from c.in-Some.row _ _
-    c.loop-row.invariant c.in-Some.ensures c.in_ok-put_number.ensures
+    row_put _ c.loop-row.invariant c.in-Some.ensures c.in_ok-put_number.ensures

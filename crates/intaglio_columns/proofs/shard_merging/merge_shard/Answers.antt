@@ -1,11 +1,10 @@
-use Rattle.std.proofs.lemmas.Result.{err_from_is_err_and}
 use Rattle.intaglio_columns.proofs.Owned.{own-union}
+use Rattle.intaglio_columns.proofs.Parts.{passed-on}
 use Rattle.intaglio_columns.proofs.shard_merging.merge_shard.Goals as goal
 
 pub returns-in_err-check_own-clause-err : goal.returns-in_err-check_own-clause-err
 returns-in_err-check_own-clause-err g c =
-    let passed = err_from_is_err_and c.from_residual.result c.from_residual.ensures.1 in
-    rw (passed.1, passed.2) (c.in_err-check_own.ensures.err c.args.kind)
+    passed-on _ c.from_residual.result _ c.from_residual.ensures.1 (c.in_err-check_own.ensures.err c.args.kind)
 
 pub returns-clause-own : goal.returns-clause-own
 returns-clause-own g c =

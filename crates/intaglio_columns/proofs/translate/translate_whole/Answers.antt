@@ -1,5 +1,4 @@
-use Rattle.std.proofs.lemmas.Result.{err_from_is_err_and}
-use Rattle.intaglio_columns.proofs.Parts.{on-err}
+use Rattle.intaglio_columns.proofs.Parts.{on-err, passed-on}
 use Rattle.intaglio_columns.proofs.Translated.{failure-reports, kept-part, none-translated, reads-more}
 use Rattle.intaglio_columns.proofs.translate.translate_whole.Goals as goal
 
@@ -15,52 +14,28 @@ loop-init g c =
     })
 
 pub loop-preserved : goal.loop-preserved
-loop-preserved g c =
-    let translator = c.args.translator.now in
-    record {
-      done = c.in_ok-count.ensures.ok _ _ _
-          (reads-more g.T.Translator.pieces (g.T.Translator.fits translator)
-          (g.T.Translator.translated translator) _ _ _ _ _ _ _ _ c.loop.count c.in_ok-more.ensures.read
-          c.loop.invariant.done);
-      last = c.in_ok-count.ensures.last;
-    }
+loop-preserved g c = record {
+  done = c.in_ok-count.ensures.ok _ _ _ (reads-more c.loop.invariant.done c.in_ok-more.ensures.read);
+  last = c.in_ok-count.ensures.last;
+}
 
 pub returns-in_err-count-clause-misfit : goal.returns-in_err-count-clause-misfit
 returns-in_err-count-clause-misfit g c =
-    let translator = c.args.translator.now in
-    let passed =
-    err_from_is_err_and c.from_residual-in_err-count.result c.from_residual-in_err-count.ensures.1 in
-    rw (
-      passed.1,
-      passed.2,
-    )
-    (c.in_err-count.ensures.misfit _ _ _
-    (reads-more g.T.Translator.pieces (g.T.Translator.fits translator)
-    (g.T.Translator.translated translator) _ _ _ _ _ _ _ _ c.loop.count c.in_ok-more.ensures.read
-    c.loop.invariant.done))
+    passed-on _ c.from_residual-in_err-count.result _ c.from_residual-in_err-count.ensures.1
+    (c.in_err-count.ensures.misfit _ _ _ (reads-more c.loop.invariant.done c.in_ok-more.ensures.read))
 
 pub returns-in_err-more-clause-misfit : goal.returns-in_err-more-clause-misfit
 returns-in_err-more-clause-misfit g c =
-    let passed = err_from_is_err_and c.from_residual.result c.from_residual.ensures.1 in
-    rw (passed.1, passed.2) (failure-reports g.T.Translator.pieces (g.T.Translator.fits c.args.translator.now)
-    (g.T.Translator.translated c.args.translator.now) (g.R.Read.remaining c.args.reader.now)
-    c.in_err-more.field-0.0 c.in_err-more.ensures.err)
+    passed-on _ c.from_residual.result _ c.from_residual.ensures.1
+    (failure-reports (g.T.Translator.fits c.args.translator.now) g.T.Translator.pieces
+    (g.R.Read.remaining c.args.reader.now) c.in_err-more.field-0.0 c.in_err-more.ensures.err)
 
 pub returns-in_err-count-clause-part : goal.returns-in_err-count-clause-part
-returns-in_err-count-clause-part g c =
-    let translator = c.args.translator.now in
-    on-err c.from_residual-in_err-count.result
-    (c.in_err-count.ensures.part _ _ _
-    (reads-more g.T.Translator.pieces (g.T.Translator.fits translator)
-    (g.T.Translator.translated translator) _ _ _ _ _ _ _ _ c.loop.count c.in_ok-more.ensures.read
-    c.loop.invariant.done))
+returns-in_err-count-clause-part g c = on-err c.from_residual-in_err-count.result
+    (c.in_err-count.ensures.part _ _ _ (reads-more c.loop.invariant.done c.in_ok-more.ensures.read))
 
 pub returns-in_err-more-clause-part : goal.returns-in_err-more-clause-part
-returns-in_err-more-clause-part g c =
-    on-err c.from_residual.result (kept-part g.T.Translator.pieces (g.T.Translator.fits c.args.translator.now)
-    (g.T.Translator.translated c.args.translator.now) _ _ _ _ _ _ c.loop.count c.loop.invariant.done)
+returns-in_err-more-clause-part g c = on-err c.from_residual.result (kept-part c.loop.invariant.done)
 
 pub returns-clause-part : goal.returns-clause-part
-returns-clause-part g c =
-    kept-part g.T.Translator.pieces (g.T.Translator.fits c.args.translator.now)
-    (g.T.Translator.translated c.args.translator.now) _ _ _ _ _ _ c.loop.count c.loop.invariant.done
+returns-clause-part g c = kept-part c.loop.invariant.done

@@ -4,7 +4,7 @@ use Rattle.std.proofs.lemmas.Grind.{common_steps}
 use Rattle.std.proofs.lemmas.List.{flat_map_more}
 use Rattle.std.proofs.lemmas.Option.{slice_get_within}
 use Rattle.intaglio_columns.specs.Writing.{code_bytes}
-use Rattle.intaglio_columns.proofs.Selected.{next}
+use Rattle.intaglio_columns.proofs.Listed.{next}
 use Rattle.intaglio_columns.proofs.file.writing.put_codes.Goals as goal
 
 pub loop-row-preserved : goal.loop-row-preserved

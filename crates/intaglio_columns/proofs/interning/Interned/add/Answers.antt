@@ -41,5 +41,4 @@ returns-clause-added g c =
     λ kept. rw (c.forget.ensures.symbols kept) at issued in
     let allowed : Allows c.args.kind c.args.lines.now = search rules in
     let count : c.saturating_add-self.result ≡ min (old.count + length lines) (2 ^ 64 - 1) = grind (arith, common_steps, length-append, issue-length) in
-    λ front ended done. lines-interned c.args.kind c.args.is_kept front c.args.lines.now _ _ _ _ _ _ ended
-    done allowed held limit symbols count
+    λ front ended done. lines-interned ended done c.args.lines.now allowed held limit symbols count
