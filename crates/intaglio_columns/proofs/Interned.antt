@@ -88,13 +88,8 @@ module _ (front lines rest : List ℕ) (ended : is_ended front ≡ true) (whole 
       n < length (interned_all (λ w. w ∷ []) old (lines_of lines)) →
       n < length (distinct_lines (front ++ (lines ++ rest)))
   too-many n old is over =
-      omega (
-        arith,
-        all-longer,
-        over,
-        ap (λ t. length (interned_all (λ w. w ∷ []) t (lines_of lines))) is,
-        ap length (held-append front lines ended),
-      )
+      let more = rw (is, held-append front lines ended) at over in
+      omega (arith, all-longer, more)
 
   pub not-allowed : (kind : Kind) → ¬ (Allows kind lines) → ¬ (Allows kind (front ++ (lines ++ rest)))
   not-allowed kind fault all =

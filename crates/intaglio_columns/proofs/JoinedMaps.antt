@@ -1,6 +1,5 @@
 -- Maps in columns, as one map.
-use Rattle.std.proofs.lemmas.Grind.{common_steps}
-use Rattle.std.proofs.Common.{◌≡◌, ◌≢◌, ◌∙◌, ◌==◌, sym, ap, refl, ℕ, zero, suc, ◌+◌, ◌<◌, ◌≤◌, Bool, true, false, cond, List, [], ◌∷◌, ◌++◌, get_or, length, map, take, Some, inl, inr, append_assoc, length-append, arith, eq-eqb}
+use Rattle.std.proofs.Common.{◌≡◌, ◌≢◌, ◌∙◌, ◌==◌, sym, ap, refl, ℕ, zero, suc, ◌+◌, ◌<◌, ◌≤◌, true, false, List, [], ◌∷◌, ◌++◌, get_or, length, map, take, Some, inl, inr, append_assoc, length-append, arith, eq-eqb}
 use Rattle.std.specs.List.{slice_get, All}
 use Rattle.std.proofs.lemmas.List.{length-map, map-append}
 use Rattle.std.proofs.lemmas.Bool.{true≢false}
@@ -22,11 +21,8 @@ pub added-next : (ns : List ℕ) (i n : ℕ) → slice_get ns i ≡ Some n → (
     → held ≡ before ++ map (λ k. start + k) (take i ns) → items ≡ held ++ (start + n) ∷ []
     → items ≡ before ++ map (λ k. start + k) (take (i + 1) ns)
 added-next ns i n at start before held items is more =
-    let plus = λ (k : ℕ). start + k in
-    let longer : map plus (take (i + 1) ns) ≡ map plus (take i ns) ++ (start + n) ∷ [] =
-    ap (map plus) (next ns i n at) ∙ map-append plus (take i ns) (n ∷ []) in
-    more ∙ ap (λ t. t ++ (start + n) ∷ []) is
-    ∙ append_assoc before (map plus (take i ns)) ((start + n) ∷ []) ∙ ap (λ t. before ++ t) (sym longer)
+    rw (more, is, next ns i n at, map-append (λ k. start + k) (take i ns) (n ∷ []))
+    (append_assoc before (map (λ k. start + k) (take i ns)) ((start + n) ∷ []))
 
 -- where no row is missing, no code is the missing one
 none-missing : (cs : List ℕ) → rows_from (λ c. c == missing) 0 cs ≡ [] → (i code : ℕ) →
@@ -82,16 +78,11 @@ module _ (maps : List (List ℕ)) (i : ℕ) (m : List ℕ) (at : slice_get maps 
       → items ≡ joined_codes (take (i + 1) maps)
   joined-next start held items is before more =
       let front = take i maps in
-      let counts = map strings front in
-      let from-zero : start ≡ 0 + sum_of counts = omega (arith, is) in
-      let same : length counts ≡ length (map codes front) =
-      length-map front strings ∙ sym (length-map front codes) in
-      more ∙ ap (λ t. t ++ map (λ k. start + k) (codes m)) before
-      ∙ ap (λ s. joined_codes front ++ map (λ k. s + k) (codes m)) from-zero
-      ∙ sym (map-push 0 counts (map codes front) (strings m) (codes m) same)
-      ∙ ap (λ t. joined_map 0 t (map codes front ++ codes m ∷ [])) (sym (map-append strings front (m ∷ [])))
-      ∙ ap (joined_map 0 (map strings (front ++ m ∷ []))) (sym (map-append codes front (m ∷ [])))
-      ∙ ap joined_codes (sym (next maps i m at))
+      let from-zero : start ≡ 0 + sum_of (map strings front) = omega (arith, is) in
+      let same = length-map front strings ∙ sym (length-map front codes) in
+      rw (more, before, next maps i m at, map-append strings front (m ∷ []), map-append codes front (m ∷ []))
+      (ap (λ s. joined_codes front ++ map (λ k. s + k) (codes m)) from-zero
+      ∙ sym (map-push 0 (map strings front) (map codes front) (strings m) (codes m) same))
 
 -- together maps have as many codes as rows
 pub joined-rows : (n : ℕ) (maps : List (List ℕ)) →

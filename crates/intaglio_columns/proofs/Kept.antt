@@ -1,5 +1,5 @@
 -- Codes by a map keep their lines.
-use Rattle.std.proofs.Common.{◌≡◌, ◌∙◌, ℕ, suc, ◌^◌, ◌<◌, ◌≤◌, inl, inr, cond, List, [], ◌∷◌, ◌++◌, length, get_or, Option, Some, unwrap_or, refl, sym, ap, arith, eq-eqb}
+use Rattle.std.proofs.Common.{◌≡◌, ◌≢◌, ◌∙◌, ℕ, suc, ◌^◌, ◌<◌, ◌≤◌, inl, inr, cond, List, [], ◌∷◌, ◌++◌, length, get_or, Option, Some, unwrap_or, refl, sym, ap, arith, eq-eqb}
 use Rattle.std.specs.List.{flat_map, slice_get}
 use Rattle.std.proofs.lemmas.Bool.{ne_eqb}
 use Rattle.std.proofs.lemmas.List.{get_or_past, length-map}
@@ -21,14 +21,12 @@ module _ (old new : List (List ℕ)) (text : Option (List ℕ)) (numbers : List 
   of_symbol : (strings : List (List ℕ)) (code : ℕ) (w : List ℕ) → length strings ≤ missing →
       slice_get strings code ≡ Some w → string_at strings text code ≡ w
   of_symbol strings code w most at =
-      ap (λ b. cond b (unwrap_or text []) (get_or strings code []))
-      (ne_eqb code missing (λ e. omega (arith, e, most, slice_get_within strings code w at)))
-      ∙ get_or_from_slice_get strings code w [] at
+      let other : code ≢ missing = λ e. omega (arith, e, most, slice_get_within strings code w at) in
+      rw (ne_eqb code missing other) (get_or_from_slice_get strings code w [] at)
 
   of_missing : (strings : List (List ℕ)) (code : ℕ) → code ≡ missing →
       string_at strings text code ≡ unwrap_or text []
-  of_missing strings code e =
-      ap (λ b. cond b (unwrap_or text []) (get_or strings code [])) (eq-eqb code missing e)
+  of_missing strings code e = rw (eq-eqb code missing e) refl
 
   same_line : (c : ℕ) → IsCode n c → string_at new text (get_or numbers c missing) ≡ string_at old text c
   same_line c known = elim known [
@@ -48,7 +46,4 @@ module _ (old new : List (List ℕ)) (text : Option (List ℕ)) (numbers : List 
       ≡ flat_map (code_line old text) cs
   kept [] known = refl
   kept (c ∷ cs) known =
-      let here = ap spelling_line (same_line c (known 0 c refl)) in
-      let others = kept cs (λ row code at. known (suc row) code at) in
-      ap (λ t. t ++ flat_map (code_line new text) (renumber numbers cs)) here
-      ∙ ap (λ t. code_line old text c ++ t) others
+      rw (same_line c (known 0 c refl), kept cs (λ row code at. known (suc row) code at)) refl

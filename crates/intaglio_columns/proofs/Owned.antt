@@ -21,8 +21,7 @@ module _ (p : List ℕ → Bool) where
       → map (filter p) lists ≡ lists
   all-pass-each [] each = refl
   all-pass-each (ws ∷ lists) each =
-      ap (λ t. t ∷ map (filter p) lists) (all-pass ws (each 0 ws refl))
-      ∙ ap (λ t. ws ∷ t) (all-pass-each lists (λ k vs at. each (suc k) vs at))
+      rw (all-pass ws (each 0 ws refl), all-pass-each lists (λ k vs at. each (suc k) vs at)) refl
 
   passed-by : (w v : List ℕ) (ws : List (List ℕ)) (passes : Bool) → p v ≡ passes
       → ((i : ℕ) → slice_get (filter p ws) i ≡ Some w → p w ≡ true)

@@ -12,7 +12,7 @@ use Rattle.intaglio_columns.proofs.Past.{more_rows_of}
 use Rattle.intaglio_columns.proofs.Selected.{selected}
 use Rattle.intaglio_lines.specs.Output.{number_line}
 use Rattle.intaglio_lines.proofs.Appended.{Appends-append}
-use Rattle.intaglio_columns.specs.RowLines.{AreRangesBefore, HasRangeFault, IsRangeFault, IsRowsFault}
+use Rattle.intaglio_columns.specs.RowLines.{AreRangesBefore, IsRangeFault, IsRowsFault}
 use Rattle.intaglio_columns.specs.declared.rows.RowRange.{RowRange}
 use Rattle.intaglio_columns.specs.declared.error.RowsError.{RowsError}
 use Rattle.intaglio_columns.specs.declared.error.RowsError.TheVariants.{NoRow, NoLine, Stream}

@@ -1,7 +1,7 @@
 -- The rows that a test selects, among the codes so far.
 use Rattle.std.proofs.Common.{◌≡◌, ◌∙◌, ℕ, suc, ◌+◌, Bool, true, false, cond, List, [], ◌∷◌, ◌++◌, length, take, slice_get, Some, refl, ap, arith, length-take-le}
 use Rattle.std.proofs.lemmas.List.{append-nil}
-use Rattle.std.proofs.lemmas.Option.{slice_get_within, get_or_from_slice_get}
+use Rattle.std.proofs.lemmas.Option.{slice_get_within}
 use Rattle.intaglio_columns.specs.Rows.{rows_from}
 use Rattle.intaglio_columns.proofs.Listed.{next}
 
@@ -17,18 +17,15 @@ rows_more : (p : ℕ → Bool) (k : ℕ) (xs : List ℕ) (c : ℕ) →
 rows_more p k [] c = ap (λ m. cond (p c) (m ∷ []) []) (omega arith)
 rows_more p k (x ∷ xs) c =
     let place : k + 1 + length xs ≡ k + suc (length xs) = omega arith in
-    let rest : rows_from p (k + 1) (xs ++ c ∷ []) ≡ rows_from p (k + 1) xs
-    ++ cond (p c) ((k + suc (length xs)) ∷ []) [] =
-    rows_more p (k + 1) xs c ∙ ap (λ m. rows_from p (k + 1) xs ++ cond (p c) (m ∷ []) []) place in
-    rw rest (cond_append (p x) k (rows_from p (k + 1) xs) (cond (p c) ((k + suc (length xs)) ∷ []) []))
+    rw (rows_more p (k + 1) xs c, place)
+    (cond_append (p x) k (rows_from p (k + 1) xs) (cond (p c) ((k + suc (length xs)) ∷ []) []))
 
 module _ (p : ℕ → Bool) (cs : List ℕ) (i c : ℕ) (at : slice_get cs i ≡ Some c) where
   step : rows_from p 0 (take (i + 1) cs) ≡ rows_from p 0 (take i cs) ++ cond (p c) (i ∷ []) []
   step =
-      let size : length (take i cs) ≡ i = length-take-le i cs (omega (arith, slice_get_within cs i c at)) in
-      let place : 0 + length (take i cs) ≡ i = omega (arith, size) in
-      ap (rows_from p 0) (next cs i c at) ∙ rows_more p 0 (take i cs) c
-      ∙ ap (λ m. rows_from p 0 (take i cs) ++ cond (p c) (m ∷ []) []) place
+      let place : 0 + length (take i cs) ≡ i =
+      omega (arith, length-take-le i cs (omega (arith, slice_get_within cs i c at))) in
+      rw (next cs i c at, rows_more p 0 (take i cs) c, place) refl
 
   pub selected : p c ≡ true → rows_from p 0 (take (i + 1) cs) ≡ rows_from p 0 (take i cs) ++ i ∷ []
   selected e = step ∙ ap (λ b. rows_from p 0 (take i cs) ++ cond b (i ∷ []) []) e

@@ -2,12 +2,10 @@
 use Rattle.std.proofs.lemmas.Grind.{common_steps}
 use Rattle.std.proofs.Common.{◌≡◌, ◌≢◌, ◌∙◌, ℕ, zero, suc, ◌+◌, ◌<◌, ◌≤◌, inl, inr, Bool, true, false, cond, List, [], ◌∷◌, length, get_or, slice_get, Option, None, Some, MatchOption, refl, subst, sym, ap, arith}
 use Rattle.std.proofs.lemmas.Bool.Decides.{nat_tests}
-use Rattle.std.proofs.lemmas.Bool.{false_from_ne_true, true≢false}
 use Rattle.std.proofs.lemmas.Option.{get_or_from_slice_get, slice_get-get_or, slice_get_within}
-use Rattle.intaglio_columns.specs.Width.{missing}
 use Rattle.intaglio_columns.specs.Codes.{AreCodes, IsCode, is_unknown}
 use Rattle.intaglio_columns.specs.Fault.{HasNoString}
-use Rattle.intaglio_columns.specs.Rows.{IsNextRow, rows_from, rows_past}
+use Rattle.intaglio_columns.specs.Rows.{IsNextRow, rows_from}
 
 -- a row before the first one that passes doesn't pass, or is before the others
 first-past : (k d i : ℕ) (b : Bool) (rest : List ℕ) → k + i < get_or (cond b (k ∷ rest) rest) 0 d →

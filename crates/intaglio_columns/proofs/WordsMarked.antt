@@ -1,6 +1,6 @@
 -- The symbols of words are marked, one word after the other.
 use Rattle.std.proofs.Common.{◌≡◌, ◌∙◌, ℕ, ◌<◌, ◌≤◌, inl, inr, Bool, true, false, List, [], ◌∷◌, ◌++◌, length, get_or, set, slice_get, Contains, Option, Some, sym, ap, arith, length-set, get_or-set_other}
-use Rattle.std.proofs.lemmas.Bool.{cases_eq, false≢true}
+use Rattle.std.proofs.lemmas.Bool.{cases_eq}
 use Rattle.std.proofs.lemmas.Grind.{get_or-set_at}
 use Rattle.std.proofs.lemmas.List.Elements.{Contains-append_left, Contains-push, Contains-push_cases}
 use Rattle.intaglio_columns.specs.Answers.{position_in}
@@ -10,8 +10,8 @@ use Rattle.intaglio_columns.specs.Matching.{AreMarked}
 pub same_symbol : (a b : ℕ) → Some a ≡ Some b → a ≡ b
 same_symbol a b e = cc
 
-module _ (n : ℕ) (strings : List (List ℕ)) (IsWhole : Type 0) where
-  module _ (words : List (List ℕ)) (w : List ℕ) (marks : List Bool)
+module _ {n : ℕ} {strings : List (List ℕ)} {IsWhole : Type 0} where
+  module _ {words : List (List ℕ)} {marks : List Bool} (w : List ℕ)
       (before : AreMarked n strings IsWhole words marks) where
     kept : (symbol : ℕ) → get_or marks symbol false ≡ true → (word : List ℕ) × Contains (words ++ w ∷ []) word
         × (slice_get strings symbol ≡ Some word)

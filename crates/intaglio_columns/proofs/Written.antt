@@ -1,6 +1,6 @@
 -- What is written of codes is a column of them.
 use Rattle.std.proofs.lemmas.Grind.{common_steps}
-use Rattle.std.proofs.Common.{◌≡◌, ◌≢◌, ◌∙◌, ◌==◌, ℕ, zero, suc, ◌+◌, ◌*◌, ◌/◌, ◌%◌, ◌^◌, ◌<◌, ◌≤◌, inl, inr, ◌⊎◌, true, false, cond, List, [], ◌∷◌, ◌++◌, length, slice_get, Some, Bool, refl, sym, ap, subst, arith, eq-eqb, length-append}
+use Rattle.std.proofs.Common.{◌≡◌, ◌≢◌, ◌∙◌, ◌==◌, ℕ, zero, suc, ◌+◌, ◌*◌, ◌/◌, ◌%◌, ◌^◌, ◌<◌, ◌≤◌, inl, inr, ◌⊎◌, true, false, List, [], ◌∷◌, ◌++◌, length, slice_get, Some, Bool, refl, sym, ap, subst, arith, eq-eqb, length-append}
 use Rattle.std.proofs.lemmas.List.{append_assoc}
 use Rattle.std.specs.List.{flat_map}
 use Rattle.std.specs.Int.{w16, w32, w64, to_le_bytes, from_le_bytes}
@@ -16,7 +16,7 @@ use Rattle.intaglio_columns.specs.Layout.{checksum_of, code_at, codes_at, codes,
 use Rattle.intaglio_columns.specs.Codes.{AreCodes, IsCode}
 use Rattle.intaglio_columns.specs.Fault.{HasGap}
 use Rattle.intaglio_columns.specs.Rows.{rows_of}
-use Rattle.intaglio_columns.specs.IsColumn.{HasChecksum, HasRows, IsHeaderOf, IsReserved, end_of, magic}
+use Rattle.intaglio_columns.specs.IsColumn.{HasChecksum, IsHeaderOf, end_of, magic}
 use Rattle.intaglio_columns.specs.Writing.{HasRanges, code_bytes, file_of, header_for, header_of, reserved_bytes, source_bytes, start_of}
 use Rattle.intaglio_columns.specs.declared.file.header.ColumnHeader.{ColumnHeader}
 use Rattle.intaglio_columns.specs.declared.file.source.RowSource.{RowSource}
@@ -35,22 +35,13 @@ unfolding code_at
 code_behind xs ys w at e = ap (λ p. widened w (number (xs ++ ys) p 0 (bytes_of w))) e
     ∙ ap (widened w) (number_behind xs ys 0 (bytes_of w))
 
--- numbers that were written are read
-same2 : (a b : ℕ) → number (a ∷ b ∷ []) 0 0 2 ≡ from_le_bytes w16 (a ∷ b ∷ [])
-same2 a b = omega arith
-
--- four bytes make the number that `from_le_bytes` makes of them
-same4 : (a b c d : ℕ) → number (a ∷ b ∷ c ∷ d ∷ []) 0 0 4 ≡ from_le_bytes w32 (a ∷ b ∷ c ∷ d ∷ [])
-same4 a b c d = omega arith
-
 -- a number below 2 ^ 16 is read from its two little-endian bytes
 le2 : (x : ℕ) → x < 2 ^ 16 → number (to_le_bytes w16 x) 0 0 2 ≡ x
-le2 x l = same2 (x % 256) (x / 256 % 256) ∙ from_le_bytes-to_le_bytes_2 x l
+le2 x l = grind (arith, common_steps)
 
 -- a number below 2 ^ 32 is read from its four little-endian bytes
 le4 : (x : ℕ) → x < 2 ^ 32 → number (to_le_bytes w32 x) 0 0 4 ≡ x
-le4 x l = same4 (x % 256) (x / 256 % 256) (x / 65536 % 256) (x / 16777216 % 256)
-    ∙ from_le_bytes-to_le_bytes_4 x l
+le4 x l = grind (arith, common_steps)
 
 -- a number below 2 ^ 64 is read from its eight little-endian bytes
 le8 : (x : ℕ) → x < 2 ^ 64 → number (to_le_bytes w64 x) 0 0 8 ≡ x

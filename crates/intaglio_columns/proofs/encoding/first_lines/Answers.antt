@@ -1,4 +1,3 @@
-use Rattle.std.proofs.lemmas.Grind.{common_steps}
 use Rattle.std.proofs.Common.{◌≡◌, ◌∙◌, ◌+◌, ◌-◌, ◌++◌, [], ◌∷◌, ap, length, arith}
 use Rattle.std.proofs.lemmas.List.{take_rest}
 use Rattle.intaglio_columns.proofs.encoding.first_lines.Goals as goal

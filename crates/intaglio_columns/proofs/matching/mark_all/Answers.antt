@@ -9,8 +9,6 @@ use Rattle.intaglio_columns.proofs.matching.mark_all.Goals.{in-Some, in_default}
 pub loop-string-preserved : goal.loop-string-preserved
 loop-string-preserved g c =
     let n = length c.args.marks.now in
-    let strings = g.D.Dictionary.strings c.args.table.now in
-    let IsWhole = g.D.Dictionary.is_whole c.args.table.now in
     let i = c.loop-string.string-index in
     let none : Bor (List ℕ) = record { ref_ptr = (0, 0); now = [] } in
     let item = get_or c.args.strings.now i none in
@@ -24,16 +22,16 @@ loop-string-preserved g c =
     elim c.match-found.branch [
       | in-Some w ↦ let s = w.in-Some.symbol in elim (cases_lt w.id.result (length marks)) [
         | inl small ↦ rw (more, w.marks-is, w.mark.ensures.there small, w.id.ensures)
-            (marked_found n strings IsWhole words word marks before s
+            (marked_found word before s
             (omega (arith, small, before.long, w.id.ensures))
             (rw w.in-Some.is at c.symbol-found.ensures.found)
             (λ holds. sym w.in-Some.is ∙ c.symbol-found.ensures.whole holds))
         | inr large ↦ rw (more, w.marks-is, w.mark.ensures.none large)
-            (marked_absent n strings IsWhole words word marks before (Some s) (λ holds. sym w.in-Some.is
+            (marked_absent word before (Some s) (λ holds. sym w.in-Some.is
             ∙ c.symbol-found.ensures.whole holds)
             (λ t e. omega (arith, same_symbol s t e, large, before.long, w.id.ensures)))
       ]
       | in_default w ↦ rw (more, w.marks-is)
-          (marked_absent n strings IsWhole words word marks before c.symbol-found.result
+          (marked_absent word before c.symbol-found.result
           c.symbol-found.ensures.whole (λ t e. absurd (w.in_default.not-Some t e)))
     ]

@@ -1,4 +1,3 @@
-use Rattle.std.proofs.lemmas.Grind.{common_steps}
 use Rattle.std.proofs.Common.{◌≡◌, ◌∙◌, ◌+◌, ◌-◌, ◌++◌, drop, slice_get, ap, sym, arith}
 use Rattle.std.specs.Option.{option_map}
 use Rattle.intaglio_lines.specs.Output.{spelling_line}
