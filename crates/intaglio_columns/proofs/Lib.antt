@@ -4,7 +4,6 @@ pub mod CodesInFile
 pub mod Widths
 pub mod Counted
 pub mod Marked
-pub mod Selected
 pub mod Unknown
 pub mod Written
 pub mod Overlaid
@@ -12,18 +11,13 @@ pub mod Past
 pub mod Placed
 pub mod Listed
 pub mod Parts
-pub mod Grouped
-pub mod Below
 pub mod Found
 pub mod Translated
 pub mod Coded
 pub mod JoinedMaps
 pub mod Agreed
 pub mod Cut
-pub mod WordsMarked
 pub mod Ranged
 pub mod Ranked
 pub mod Shared
-pub mod Kept
-pub mod Owned
 pub mod Interned

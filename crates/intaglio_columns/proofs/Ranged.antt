@@ -9,7 +9,6 @@ use Rattle.std.proofs.lemmas.Bool.{cases_lt}
 use Rattle.std.proofs.lemmas.Option.{get_or_from_slice_get, slice_get-get_or}
 use Rattle.intaglio_columns.specs.Rows.{IsFirstRow, rows_from, rows_past}
 use Rattle.intaglio_columns.proofs.Past.{more_rows_of}
-use Rattle.intaglio_columns.proofs.Selected.{selected}
 use Rattle.intaglio_lines.specs.Output.{number_line}
 use Rattle.intaglio_lines.proofs.Appended.{Appends-append}
 use Rattle.intaglio_columns.specs.RowLines.{AreRangesBefore, IsRangeFault, IsRowsFault}
@@ -25,13 +24,6 @@ pub after_next : {X Y : Type 0} (xs : List X) (n : ℕ) (x : X) → slice_get xs
     → flat_map h ys ≡ flat_map h zs ++ flat_map f (take n xs) → h y ≡ f x →
     flat_map h (ys ++ y ∷ []) ≡ flat_map h zs ++ flat_map f (take (n + 1) xs)
 after_next xs n x at h ys zs y f before same = grind (arith, common_steps, flat_map-append, append-nil, append_assoc, flat_map-next)
-
--- what is made of one selected row more
-pub item_of_row : {X : Type 0} (p : ℕ → Bool) (cs : List ℕ) (i c : ℕ) → slice_get cs i ≡ Some c → p c ≡ true →
-    (f : ℕ → X)
-    → map f (rows_from p 0 (take (i + 1) cs)) ≡ map f (rows_from p 0 (take i cs)) ++ f i ∷ []
-item_of_row p cs i c at e f =
-    ap (map f) (selected p cs i c at e) ∙ map-append f (rows_from p 0 (take i cs)) (i ∷ [])
 
 -- the numbers of the rows before this one that pass were put
 pub record HavePut (p : ℕ → Bool) (cs : List ℕ) (from : ℕ) (old new : Option (List ℕ)) : Type 0 where

@@ -1,10 +1,65 @@
-use Rattle.std.proofs.lemmas.Grind.{common_steps}
-use Rattle.std.proofs.Common.{◌≡◌, ◌∙◌, ℕ, ◌+◌, List, [], ◌∷◌, ◌++◌, inl, inr, Bor, get_or, length, map, slice_get, take, Some, sym, arith}
-use Rattle.std.proofs.lemmas.Bool.{cases_lt}
+-- The symbols of words are marked, one word after the other.
+use Rattle.std.proofs.Common.{◌≡◌, ◌∙◌, ℕ, ◌<◌, ◌≤◌, inl, inr, Bool, true, false, List, [], ◌∷◌, ◌++◌, length, get_or, set, slice_get, Contains, Option, Some, sym, ap, arith, length-set, get_or-set_other, ◌+◌, Bor, map, take}
+use Rattle.std.proofs.lemmas.Bool.{cases_eq, cases_lt}
+use Rattle.std.proofs.lemmas.Grind.{get_or-set_at, common_steps}
+use Rattle.std.proofs.lemmas.List.Elements.{Contains-append_left, Contains-push, Contains-push_cases}
+use Rattle.intaglio_columns.specs.Answers.{position_in}
+use Rattle.intaglio_columns.specs.Matching.{AreMarked}
 use Rattle.std.proofs.lemmas.Option.{slice_get-get_or}
-use Rattle.intaglio_columns.proofs.WordsMarked.{marked_absent, marked_found, same_symbol}
 use Rattle.intaglio_columns.proofs.matching.mark_all.Goals as goal
 use Rattle.intaglio_columns.proofs.matching.mark_all.Goals.{in-Some, in_default}
+
+-- the same symbol was found
+same_symbol : (a b : ℕ) → Some a ≡ Some b → a ≡ b
+same_symbol a b e = cc
+
+module _ {n : ℕ} {strings : List (List ℕ)} {IsWhole : Type 0} where
+  module _ {words : List (List ℕ)} {marks : List Bool} (w : List ℕ)
+      (before : AreMarked n strings IsWhole words marks) where
+    kept : (symbol : ℕ) → get_or marks symbol false ≡ true → (word : List ℕ) × Contains (words ++ w ∷ []) word
+        × (slice_get strings symbol ≡ Some word)
+    kept symbol e = let it = before.sound symbol e in
+        (it.0, Contains-append_left words (w ∷ []) it.0 it.1, it.2)
+
+    -- a word that isn't found, or whose symbol has no place
+    marked_absent : (found : Option ℕ) → (IsWhole → found ≡ position_in strings w) →
+        ((symbol : ℕ) → found ≡ Some symbol → n ≤ symbol)
+        → AreMarked n strings IsWhole (words ++ w ∷ []) marks
+    marked_absent found is large = record {
+      long = before.long;
+      sound = kept;
+      whole = λ holds symbol word among at small. elim (Contains-push_cases words w word among) [
+        | inl earlier ↦ before.whole holds symbol word earlier at small
+        | inr same ↦
+            absurd (omega (arith, small, large symbol (is holds ∙ ap (position_in strings) same ∙ at)))
+      ];
+    }
+
+    -- a word that is found
+    marked_found : (s : ℕ) → s < n → slice_get strings s ≡ Some w →
+        (IsWhole → Some s ≡ position_in strings w)
+        → AreMarked n strings IsWhole (words ++ w ∷ []) (set marks s true)
+    marked_found s small at is =
+        let there : s < length marks = omega (arith, small, before.long) in
+        let other : (symbol : ℕ) → (symbol ≡ s → ⊥) →
+        get_or (set marks s true) symbol false ≡ get_or marks symbol false =
+        λ symbol ne. get_or-set_other marks s symbol true false ne in
+        record {
+          long = length-set marks s true ∙ before.long;
+          sound = λ symbol e. elim (cases_eq symbol s) [
+            | inl same ↦ (w, Contains-push words w, ap (slice_get strings) same ∙ at)
+            | inr ne ↦ kept symbol (sym (other symbol ne) ∙ e)
+          ];
+          whole = λ holds symbol word among position below. elim (cases_eq symbol s) [
+            | inl same ↦ get_or-set_at marks s symbol true false same there
+            | inr ne ↦ other symbol ne ∙ elim (Contains-push_cases words w word among) [
+              | inl earlier ↦ before.whole holds symbol word earlier position below
+              | inr same ↦
+                  absurd (ne
+                  (sym (same_symbol s symbol (is holds ∙ ap (position_in strings) same ∙ position))))
+            ]
+          ];
+        }
 
 pub loop-string-preserved : goal.loop-string-preserved
 loop-string-preserved g c =

@@ -6,10 +6,7 @@ pub loop-init : goal.loop-init
 loop-init g c =
     let translator = c.args.translator.now in
     rw c.new-bytes.ensures.items (record {
-      done = none-translated g.T.Translator.pieces (g.T.Translator.fits translator)
-          (g.T.Translator.translated translator) (g.R.Read.remaining c.args.reader.now)
-          (g.W.Write.contents c.args.writer.now)
-          c.args.block.now.items c.requires;
+      done = none-translated _ _ _ _ _ _ c.requires;
       last = g.T.Translator.no_pieces;
     })
 
