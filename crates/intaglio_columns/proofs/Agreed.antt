@@ -4,7 +4,6 @@ use Rattle.std.specs.List.{flat_map, slice_get, All}
 use Rattle.std.proofs.lemmas.Bool.{ne_eqb}
 use Rattle.std.proofs.lemmas.List.{get_or_past, length-map}
 use Rattle.std.proofs.lemmas.Option.{get_or_from_slice_get, slice_get-get_or, slice_get_within}
-use Rattle.intaglio_lines.specs.Output.{spelling_line}
 use Rattle.intaglio_frozen.specs.Merging.{IsMap, missing, renumber}
 use Rattle.intaglio_frozen.proofs.Renumbered.{same-string}
 use Rattle.intaglio_columns.specs.Codes.{AreCodes, IsCode}

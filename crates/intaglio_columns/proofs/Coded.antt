@@ -7,9 +7,9 @@ use Rattle.std.proofs.lemmas.Option.{slice_get_within}
 use Rattle.intaglio_lines.specs.Lines.{lines_of}
 use Rattle.intaglio_lines.specs.Output.{spelling_line}
 use Rattle.intaglio_lines.proofs.ByLines.{flat_map-lines_of}
-use Rattle.intaglio_frozen.specs.Merging.{missing, string_key}
+use Rattle.intaglio_frozen.specs.Merging.{missing}
 use Rattle.intaglio_columns.specs.Answers.{position_in}
-use Rattle.intaglio_columns.specs.Columns.{code_bytes, code_pieces, code_in, decoded_column, has_code, line_of, DecodesToInput}
+use Rattle.intaglio_columns.specs.Columns.{code_bytes, code_pieces, code_in, has_code, line_of, DecodesToInput}
 use Rattle.intaglio_columns.specs.Translation.{AllFit}
 use Rattle.intaglio_columns.proofs.Found.{position-string}
 

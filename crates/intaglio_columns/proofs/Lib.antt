@@ -1,14 +1,12 @@
 -- Lemmas on the bytes of a column.
 pub mod Checksums
 pub mod CodesInFile
-pub mod Widths
 pub mod Counted
 pub mod Marked
 pub mod Unknown
 pub mod Written
 pub mod Overlaid
 pub mod Past
-pub mod Placed
 pub mod Listed
 pub mod Parts
 pub mod Found
@@ -18,6 +16,5 @@ pub mod JoinedMaps
 pub mod Agreed
 pub mod Cut
 pub mod Ranged
-pub mod Ranked
 pub mod Shared
 pub mod Interned

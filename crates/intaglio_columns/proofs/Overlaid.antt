@@ -1,10 +1,11 @@
 -- A list that is written over places, item by item.
 use Rattle.std.proofs.lemmas.Grind.{common_steps}
-use Rattle.std.proofs.Common.{◌≡◌, ◌∙◌, ℕ, zero, suc, ◌+◌, ◌<◌, ◌≤◌, List, [], ◌∷◌, ◌++◌, length, take, drop, set, slice_get, Some, refl, sym, ap, arith, length-drop, length-take-le}
+use Rattle.std.proofs.Common.{◌≡◌, ◌∙◌, ℕ, ◌+◌, ◌<◌, ◌≤◌, Bool, List, [], ◌∷◌, ◌++◌, length, set, sym, ap, arith, length-append, zero, suc, take, drop, slice_get, Some, refl, length-drop, length-take-le}
+use Rattle.intaglio_columns.specs.Rows.{IsFirstRow, overlaid, rows_from, rows_past}
+use Rattle.intaglio_columns.proofs.Past.{more_rows_of}
 use Rattle.std.proofs.lemmas.Bool.{cases_lt}
 use Rattle.std.proofs.lemmas.List.{get_or-drop}
 use Rattle.std.proofs.lemmas.Option.{slice_get-get_or, slice_get_within, get_or_from_slice_get}
-use Rattle.intaglio_columns.specs.Rows.{overlaid}
 use Rattle.intaglio_columns.proofs.Listed.{next}
 
 -- one more, where there is a place for it
@@ -64,3 +65,29 @@ pub overlaid_length : (ns places : List ℕ) → length (overlaid ns places) ≡
 overlaid_length [] places = refl
 overlaid_length (n ∷ ns) [] = refl
 overlaid_length (n ∷ ns) (place ∷ places) = ap suc (overlaid_length ns places)
+
+-- the rows before this one that pass are over the first places
+pub record ArePlaced (p : ℕ → Bool) (cs places : List ℕ) (from : ℕ) (now : List ℕ) (count : ℕ) : Type 0 where
+  pub done : List ℕ
+  pub parts : done ++ rows_past p from cs ≡ rows_from p 0 cs
+  pub over : now ≡ overlaid done places
+  pub size : count ≡ length done
+  pub few : count ≤ from
+
+-- before the first row, no row has been written over the places
+pub none_placed : {p : ℕ → Bool} {cs places : List ℕ} → ArePlaced p cs places 0 places 0
+none_placed = grind (arith, common_steps)
+
+pub next_placed : {p : ℕ → Bool} {cs places : List ℕ} {from : ℕ} {now : List ℕ} {count : ℕ} {new : List ℕ}
+    {row : ℕ} → ArePlaced p cs places from now count → IsFirstRow p from cs row →
+    (count < length now → new ≡ set now count row) → (length now ≤ count → new ≡ now)
+    → ArePlaced p cs places (row + 1) new (count + 1)
+next_placed {p} {cs} {places} {from} {now} {count} {new} {row} before is there none =
+    let long : length now ≡ length places = ap length before.over ∙ overlaid_length before.done places in
+    record {
+      done = before.done ++ row ∷ [];
+      parts = more_rows_of p cs before.done (rows_from p 0 cs) from row before.parts is;
+      over = overlaid_put before.done places now new count row before.over before.size long there none;
+      size = ap (λ n. n + 1) before.size ∙ sym (length-append before.done (row ∷ []));
+      few = omega (arith, before.few, is.order);
+    }

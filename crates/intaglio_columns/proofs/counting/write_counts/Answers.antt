@@ -1,7 +1,59 @@
+-- The ranks of symbols whose strings occur.
+use Rattle.std.proofs.lemmas.Grind.{common_steps}
+use Rattle.std.proofs.Common.{◌≡◌, ℕ, zero, suc, ◌+◌, ◌<◌, ◌==◌, inl, inr, Bool, not, List, length, get_or, sym, subst, arith}
+use Rattle.std.specs.List.{All}
+use Rattle.std.proofs.lemmas.Bool.{cases_Bool}
+use Rattle.std.proofs.lemmas.List.Elements.{All-contains, All-map}
+use Rattle.std.proofs.lemmas.List.Sorted.{All-permutation}
+use Rattle.intaglio_columns.specs.Rows.{AreCounts, rows_past}
+use Rattle.intaglio_columns.proofs.Past.{past_no}
+use Rattle.intaglio_columns.specs.Counting.{AreInOrder, IsCountsFault, IsRankFault, occurring, rank_of, ranks}
+use Rattle.intaglio_columns.specs.declared.error.DictionaryError.{DictionaryError}
+use Rattle.intaglio_columns.specs.declared.error.DictionaryError.TheVariants.{NoString, Stream}
 use Rattle.intaglio_columns.specs.Layout.{codes, strings}
-use Rattle.intaglio_columns.proofs.Ranked.{fault_of_counts}
 use Rattle.intaglio_columns.proofs.Parts.{passed-on}
 use Rattle.intaglio_columns.proofs.counting.write_counts.Goals as goal
+
+-- a symbol whose string occurs
+abbrev Occurs : List ℕ → ℕ → Type 0
+Occurs counts symbol = (symbol < length counts) × (0 < get_or counts symbol 0)
+
+-- of the symbols from a position on, the string of each whose count isn't 0 occurs
+occur : (counts : List ℕ) (left from : ℕ) → from + left ≡ length counts →
+    All (Occurs counts) (rows_past (λ n. not (n == 0)) from counts)
+occur counts zero from e = grind (arith, common_steps)
+occur counts (suc left) from e =
+    let p = λ (n : ℕ). not (n == 0) in
+    let l : from < length counts = omega (arith, e) in
+    let others = occur counts left (from + 1) (omega (arith, e)) in
+    elim (cases_Bool (p (get_or counts from 0))) [
+      | inl passed ↦ grind (arith, common_steps)
+      | inr failed ↦ subst (All (Occurs counts)) (sym (past_no p counts from l failed)) others
+    ]
+
+-- the string of each ranked symbol occurs
+all_occur : (counts : List ℕ) (ordered : List (ℕ × ℕ)) (by_symbol : Bool) →
+    AreInOrder by_symbol counts ordered → All (λ rank. Occurs counts rank.1) ordered
+all_occur counts ordered by_symbol order =
+    let P = λ (rank : ℕ × ℕ). Occurs counts rank.1 in
+    All-permutation P (ranks counts) ordered order.all
+    (All-map P (rank_of counts) (occurring counts) (occur counts (length counts) 0 (omega arith)))
+
+-- what is wrong with a rank is what is wrong with the codes
+fault_of_counts : (strings : List (List ℕ)) (IsWhole : Type 0) (n : ℕ) (cs counts : List ℕ) (gone : ℕ)
+    (ordered : List (ℕ × ℕ)) (by_symbol : Bool) (e : DictionaryError)
+    → AreCounts n cs counts gone → AreInOrder by_symbol counts ordered →
+    IsRankFault strings IsWhole ordered e → IsCountsFault strings IsWhole n cs e
+fault_of_counts strings IsWhole n cs counts gone ordered by_symbol (NoString symbol) counted order fault =
+    let P = λ (rank : ℕ × ℕ). Occurs counts rank.1 in
+    let rank = fault.0 in
+    let is : rank.1 ≡ symbol = fault.2 in
+    let occurs = All-contains P ordered rank (all_occur counts ordered by_symbol order) fault.1 in
+    let here : Occurs counts symbol = subst (Occurs counts) is occurs in
+    let l : symbol < n = omega (arith, here.0, counted.strings) in
+    (l, subst (λ k. 0 < k) (counted.each symbol l) here.1, fault.3)
+fault_of_counts strings IsWhole n cs counts gone ordered by_symbol (Stream failure) counted order fault =
+    fault
 
 pub returns-clause-written : goal.returns-clause-written
 returns-clause-written g c =

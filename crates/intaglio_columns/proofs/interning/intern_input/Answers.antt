@@ -1,6 +1,4 @@
-use Rattle.std.proofs.Common.{◌≡◌, true, take, rules}
-use Rattle.std.specs.Io.KnownBytes.{IsAtEnd}
-use Rattle.intaglio_lines.specs.Decoded.{is_ended}
+use Rattle.std.proofs.Common.{◌≡◌, rules}
 use Rattle.intaglio_columns.specs.Frozen.{IsRefusal}
 use Rattle.intaglio_columns.proofs.Interned.{all-interned, allows-nothing, more-interned, more-read, none-interned, of-any, said-of-last, said-of-lines}
 use Rattle.intaglio_columns.proofs.Parts.{passed-on}
@@ -21,32 +19,26 @@ returns-in_err-more-clause-err g c =
 
 pub returns-in_err-add-clause-err : goal.returns-in_err-add-clause-err
 returns-in_err-add-clause-err g c =
-    let end : IsAtEnd (g.R.Read.remaining c.read_block.new.reader) = search rules in
     passed-on _ c.from_residual-in_err-add.result _ c.from_residual-in_err-add.ensures.1
     (said-of-last (more-read c.loop.invariant.has c.in_ok-more.ensures.read) (λ input.
-    IsRefusal c.args.kind input c.in_err-add.field-0.0) end
+    IsRefusal c.args.kind input c.in_err-add.field-0.0) (search rules)
     (rw c.deref.ensures.value at c.in_err-add.ensures.err))
 
 pub returns-then-not-more-clause-interned : goal.returns-then-not-more-clause-interned
 returns-then-not-more-clause-interned g c =
-    let end : IsAtEnd (g.R.Read.remaining c.read_block.new.reader) = search rules in
-    all-interned (more-read c.loop.invariant.has c.in_ok-more.ensures.read) end _ _ _
+    all-interned (more-read c.loop.invariant.has c.in_ok-more.ensures.read) (search rules) _ _ _
     (rw c.deref.ensures.value at c.in_ok-add.ensures.added)
 
 pub returns-in_err-add-2-clause-err : goal.returns-in_err-add-2-clause-err
 returns-in_err-add-2-clause-err g c =
-    let ended : is_ended (take c.size_of_lines-size.result c.read_block.new.bytes.items) ≡ true =
-    search rules in
     passed-on _ c.from_residual-in_err-add-2.result _ c.from_residual-in_err-add-2.ensures.1
     (said-of-lines (more-read c.loop.invariant.has c.in_ok-more.ensures.read) (λ input.
-    IsRefusal c.args.kind input c.in_err-add-2.field-0.0) _ ended
+    IsRefusal c.args.kind input c.in_err-add-2.field-0.0) c.size_of_lines-size.result (search rules)
     (rw c.deref-in-loop-2.ensures.value at c.in_err-add-2.ensures.err))
 
 pub loop-preserved : goal.loop-preserved
 loop-preserved g c =
-    let ended : is_ended (take c.size_of_lines-size.result c.read_block.new.bytes.items) ≡ true =
-    search rules in
     rw c.drop_front.ensures (record {
-      has = more-interned (more-read c.loop.invariant.has c.in_ok-more.ensures.read) _ ended
+      has = more-interned (more-read c.loop.invariant.has c.in_ok-more.ensures.read) c.size_of_lines-size.result (search rules)
           (rw c.deref-in-loop-2.ensures.value at c.in_ok-add-2.ensures.added);
     })

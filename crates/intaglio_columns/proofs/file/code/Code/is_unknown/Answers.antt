@@ -2,8 +2,7 @@
 use Rattle.std.proofs.lemmas.Grind.{common_steps}
 use Rattle.std.proofs.Common.{◌∙◌, arith}
 use Rattle.intaglio_columns.specs.Codes.{is_unknown}
-use Rattle.intaglio_columns.proofs.CodesInFile.{code_is}
-use Rattle.intaglio_columns.proofs.Widths.{unknown_above, unknown_below}
+use Rattle.intaglio_columns.proofs.CodesInFile.{code_is, unknown_above, unknown_below}
 use Rattle.intaglio_columns.proofs.file.code.Code.is_unknown.Goals as goal
 
 pub returns-then-code-number : goal.returns-then-code-number

@@ -1,7 +1,6 @@
 -- The number at the position, once widened, is the code there.
 use Rattle.std.proofs.Common.{sym, ◌∙◌}
-use Rattle.intaglio_columns.proofs.CodesInFile.{code_is}
-use Rattle.intaglio_columns.proofs.Widths.{widened_greatest, widened_other}
+use Rattle.intaglio_columns.proofs.CodesInFile.{code_is, widened_greatest, widened_other}
 use Rattle.intaglio_columns.proofs.file.code.Code.read.Goals as goal
 
 pub returns-then-code-greatest : goal.returns-then-code-greatest

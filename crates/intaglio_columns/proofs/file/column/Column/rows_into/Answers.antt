@@ -1,4 +1,4 @@
-use Rattle.intaglio_columns.proofs.Placed.{next_placed, none_placed}
+use Rattle.intaglio_columns.proofs.Overlaid.{next_placed, none_placed}
 use Rattle.intaglio_columns.proofs.file.column.Column.rows_into.Goals as goal
 
 pub loop-row-init : goal.loop-row-init

@@ -1,7 +1,7 @@
 -- The rows so far, over the first places.
 use Rattle.std.proofs.Common.{◌-◌, ◌==◌, length}
 use Rattle.intaglio_columns.specs.Layout.{codes}
-use Rattle.intaglio_columns.proofs.Placed.{ArePlaced}
+use Rattle.intaglio_columns.proofs.Overlaid.{ArePlaced}
 use Rattle.intaglio_columns.proofs.file.column.Column.rows_into.Given as goal
 
 abbrev pub invariant-loop-row : goal.invariant-loop-row
