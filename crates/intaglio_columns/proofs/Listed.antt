@@ -19,9 +19,7 @@ module _ {X : Type 0} (xs : List X) (n : ℕ) (x : X) (at : slice_get xs n ≡ S
   fold-next f a = rw (next, fold-append f a (take n xs) (x ∷ [])) refl
 
   pub flat_map-next : (f : X → List ℕ) → flat_map f (take (n + 1) xs) ≡ flat_map f (take n xs) ++ f x
-  flat_map-next f =
-      rw (next, flat_map-append f (take n xs) (x ∷ []))
-      (ap (λ t. flat_map f (take n xs) ++ t) (append-nil (f x)))
+  flat_map-next f = rw (next, flat_map-append f (take n xs) (x ∷ []), append-nil (f x)) refl
 
   -- the lines so far, and that of one item more
   pub appends-next : (f : X → List ℕ) (old mid new : Option (List ℕ)) (line : List ℕ) → line ≡ f x
@@ -44,5 +42,4 @@ module _ {X : Type 0} (xs : List X) (n : ℕ) (x : X) (at : slice_get xs n ≡ S
       flat_map h ys ≡ flat_map f (take n xs) → h y ≡ f x
       → flat_map h (ys ++ y ∷ []) ≡ flat_map f (take (n + 1) xs)
   same-next h ys y f before same =
-      flat_map-append h ys (y ∷ []) ∙ ap (λ t. flat_map h ys ++ t) (append-nil (h y))
-      ∙ rw (before, same) (sym (flat_map-next f))
+      rw (flat_map-append h ys (y ∷ []), append-nil (h y), before, same) (sym (flat_map-next f))

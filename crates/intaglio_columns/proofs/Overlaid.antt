@@ -49,9 +49,8 @@ pub overlaid_next : (ns places now : List ℕ) (i n : ℕ) → now ≡ overlaid 
     i < length places → slice_get ns i ≡ Some n → set now i n ≡ overlaid (take (i + 1) ns) places
 overlaid_next ns places now i n e l at =
     let size : length (take i ns) ≡ i = length-take-le i ns (omega (arith, slice_get_within ns i n at)) in
-    ap (λ t. set t i n) e ∙ ap (λ k. set (overlaid (take i ns) places) k n) (sym size)
-    ∙ overlaid_more (take i ns) n places (omega (arith, size, l))
-    ∙ ap (λ t. overlaid t places) (sym (next ns i n at))
+    rw (e, next ns i n at) (ap (λ k. set (overlaid (take i ns) places) k n) (sym size)
+    ∙ overlaid_more (take i ns) n places (omega (arith, size, l)))
 
 -- a number, if there is a place for it
 pub overlaid_put : (ns places now new : List ℕ) (k n : ℕ) → now ≡ overlaid ns places → k ≡ length ns →
