@@ -50,11 +50,8 @@ position-behind bytes n end within none place =
     ap (prefix_len q) (sym (take-append-drop n bytes))
     ∙ rw (prefix_len-append q (take n bytes) (drop n bytes), past, long) refl in
     let size : length bytes ≡ n + length (drop n bytes) = omega (arith, length-drop n bytes) in
-    ap (λ t. cond (ltb t (length bytes)) (Some t) None) all
-    ∙ ap (λ t. cond (ltb (n + prefix_len q (drop n bytes)) t) (Some (n + prefix_len q (drop n bytes))) None)
-    size
-    ∙ cond-behind n (prefix_len q (drop n bytes)) (length (drop n bytes))
-    ∙ ap (option_map (λ k. n + k)) (sym (rw (take_rest bytes n) at place))
+    rw (all, size) (cond-behind n (prefix_len q (drop n bytes)) (length (drop n bytes))
+    ∙ ap (option_map (λ k. n + k)) (sym (rw (take_rest bytes n) at place)))
 
 -- bytes that are at most one piece have no byte 10
 pub no-end : (bytes : List ℕ) → lines_of bytes ≡ last_piece bytes → position (λ b. eqb b 10) bytes ≡ None
