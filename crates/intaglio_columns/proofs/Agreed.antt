@@ -1,24 +1,9 @@
 -- A column and maps that meet.
 use Rattle.std.proofs.Common.{◌≡◌, ◌≢◌, ◌∙◌, ℕ, suc, ◌^◌, ◌<◌, ◌≤◌, inl, inr, cond, List, [], ◌∷◌, ◌++◌, length, get_or, Option, Some, unwrap_or, refl, sym, ap, arith, eq-eqb, Bool, true, false, nat_lt, map, subst}
-use Rattle.std.specs.List.{flat_map, slice_get, All}
-use Rattle.std.proofs.lemmas.Bool.{ne_eqb}
-use Rattle.std.proofs.lemmas.List.{get_or_past, length-map}
-use Rattle.std.proofs.lemmas.Option.{get_or_from_slice_get, slice_get-get_or, slice_get_within}
-use Rattle.intaglio_frozen.specs.Merging.{IsMap, missing, renumber}
-use Rattle.intaglio_frozen.proofs.Renumbered.{same-string}
-use Rattle.intaglio_columns.specs.Codes.{AreCodes, IsCode}
-use Rattle.intaglio_columns.specs.RowLines.{code_line, string_at}
-use Rattle.std.proofs.lemmas.Grind.{common_steps}
-use Rattle.std.proofs.lemmas.Bool.Decides.{nat_tests}
-use Rattle.intaglio_columns.specs.declared.file.source.RowSource.{RowSource}
-use Rattle.intaglio_columns.specs.IsColumn.{IsColumn}
-use Rattle.intaglio_columns.specs.Layout.{codes, shards, source_of, strings}
-use Rattle.intaglio_columns.specs.Source.{fits}
-use Rattle.intaglio_columns.specs.Joining.{IsMapColumn}
-use Rattle.intaglio_frozen.specs.Shards.{joined, joined_map, sum_of}
-use Rattle.intaglio_frozen.proofs.Joined.{maps-join}
+use Rattle.intaglio_columns.proofs.Names.{flat_map, slice_get, All, ne_eqb, get_or_past, length-map, get_or_from_slice_get, slice_get-get_or, slice_get_within, IsMap, renumber, same-string, AreCodes, IsCode, code_line, string_at, common_steps, nat_tests, RowSource, IsColumn, shards, source_of, strings, fits, IsMapColumn, joined, joined_map, sum_of, maps-join, KeepsLines, LeadAlike, Meet, joined_codes, source_for}
+use Rattle.intaglio_frozen.specs.Merging.{missing}
+use Rattle.intaglio_columns.specs.Layout.{codes}
 use Rattle.intaglio_columns.proofs.JoinedMaps.{joined-length, joined-rows}
-use Rattle.intaglio_columns.specs.Renumbering.{KeepsLines, LeadAlike, Meet, joined_codes, source_for}
 
 module _ (old new : List (List ℕ)) (text : Option (List ℕ)) (numbers : List ℕ) (n : ℕ)
     (is : IsMap old new numbers) (few : length new ≤ missing) (long : length numbers ≡ n)

@@ -1,9 +1,8 @@
 -- The checksum of a column.
-use Rattle.std.proofs.lemmas.Grind.{common_steps}
+use Rattle.intaglio_columns.proofs.Names.{common_steps, write_byte, take-append-drop}
 use Rattle.std.proofs.Common.{◌≡◌, ◌∙◌, ◌≤◌, ℕ, List, ◌++◌, drop, length, take, sym, ap, arith}
-use Rattle.std.specs.Hash.DefaultHasher.{write, write_byte}
+use Rattle.std.specs.Hash.DefaultHasher.{write}
 use Rattle.std.specs.declared.hash.DefaultHasher.{DefaultHasher}
-use Rattle.std.proofs.lemmas.List.{take-append-drop}
 use Rattle.std.proofs.lemmas.List.Sums.{fold-append}
 use Rattle.std.proofs.lemmas.Slice.{drop-put_mid, take-put_mid}
 use borrow.Rule.Slice.PartMut.{put_mid}

@@ -1,16 +1,9 @@
 -- Codes in bytes, and what they are decoded to.
 use Rattle.std.proofs.Common.{◌≡◌, ◌∙◌, ap, sym, refl, ℕ, ◌^◌, ◌<◌, ◌≤◌, true, false, List, [], ◌∷◌, ◌++◌, length, map, Option, None, Some, IfSome, unwrap_or, is_some, arith}
-use Rattle.std.specs.List.{flat_map, slice_get, AllByRecursion}
+use Rattle.intaglio_columns.proofs.Names.{flat_map, slice_get, AllByRecursion, recursion_from_All, slice_get_within, lines_of, spelling_line, flat_map-lines_of, position_in, code_pieces, code_in, has_code, line_of, DecodesToInput, AllFit}
 use Rattle.std.proofs.lemmas.Nat.{from_le_bytes-to_le_bytes_4}
-use Rattle.std.proofs.lemmas.List.Elements.{recursion_from_All}
-use Rattle.std.proofs.lemmas.Option.{slice_get_within}
-use Rattle.intaglio_lines.specs.Lines.{lines_of}
-use Rattle.intaglio_lines.specs.Output.{spelling_line}
-use Rattle.intaglio_lines.proofs.ByLines.{flat_map-lines_of}
 use Rattle.intaglio_frozen.specs.Merging.{missing}
-use Rattle.intaglio_columns.specs.Answers.{position_in}
-use Rattle.intaglio_columns.specs.Columns.{code_bytes, code_pieces, code_in, has_code, line_of, DecodesToInput}
-use Rattle.intaglio_columns.specs.Translation.{AllFit}
+use Rattle.intaglio_columns.specs.Columns.{code_bytes}
 use Rattle.intaglio_columns.proofs.Found.{position-string}
 
 -- the pieces of written codes are their bytes

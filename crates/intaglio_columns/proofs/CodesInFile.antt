@@ -1,15 +1,7 @@
 -- Codes that follow each other, and where they stand.
 use Rattle.std.proofs.Common.{◌≡◌, ◌≢◌, cond, sym, ap, eq-eqb, ℕ, ◌+◌, ◌*◌, ◌<◌, ◌≤◌, ◌==◌, not, nat_le, arith, ◌∙◌, zero, suc, List, length, get_or, slice_get, Some, refl}
-use Rattle.std.proofs.lemmas.Bool.{ne_eqb}
-use Rattle.std.proofs.lemmas.Bool.Decides.{nat_tests}
-use Rattle.intaglio_columns.specs.Codes.{is_unknown}
-use Rattle.intaglio_columns.specs.Layout.{widened, code_at, codes_at, rows, width, codes}
-use Rattle.intaglio_columns.specs.Width.{bytes_of, greatest, missing}
-use Rattle.intaglio_columns.specs.declared.file.width.Width.{Width}
-use Rattle.intaglio_columns.specs.declared.file.width.Width.TheVariants.{One, Two, Four}
-use Rattle.std.proofs.lemmas.Grind.{common_steps}
-use Rattle.std.proofs.lemmas.Option.{get_or_from_slice_get, slice_get-get_or}
-use Rattle.intaglio_hash.specs.Push.{number}
+use Rattle.intaglio_columns.proofs.Names.{ne_eqb, nat_tests, is_unknown, widened, codes_at, rows, width, bytes_of, greatest, missing, Width, One, Two, Four, common_steps, get_or_from_slice_get, slice_get-get_or, number}
+use Rattle.intaglio_columns.specs.Layout.{code_at, codes}
 
 -- the code of a row ends where the rows do, or before
 pub row_fits : (w : Width) (row rows : ℕ) → row < rows → bytes_of w * row + bytes_of w ≤ bytes_of w * rows

@@ -1,13 +1,7 @@
 -- How often each string occurs in the codes so far.
 use Rattle.std.proofs.Common.{◌≡◌, ◌≢◌, ◌∙◌, ℕ, ◌+◌, ◌<◌, ◌≤◌, ◌==◌, inl, inr, List, length, get_or, set, take, slice_get, Some, sym, ap, arith, eq-eqb, length-set, get_or-set_other}
-use Rattle.std.specs.List.{sum}
-use Rattle.std.proofs.lemmas.Bool.{cases_eq, ne_eqb}
-use Rattle.std.proofs.lemmas.Grind.{get_or-set_at}
+use Rattle.intaglio_columns.proofs.Names.{sum, cases_eq, ne_eqb, get_or-set_at, slice_get_within, get_or_from_slice_get, missing, AreCodes, count_of}
 use Rattle.std.proofs.lemmas.List.Sums.{count_by_more_yes, count_by_more_no, sum_by-set}
-use Rattle.std.proofs.lemmas.Option.{slice_get_within, get_or_from_slice_get}
-use Rattle.intaglio_columns.specs.Width.{missing}
-use Rattle.intaglio_columns.specs.Codes.{AreCodes}
-use Rattle.intaglio_columns.specs.Rows.{count_of}
 
 pub record IsTally (n : ℕ) (cs : List ℕ) (i : ℕ) (counts : List ℕ) (gone : ℕ) : Type 0 where
   pub strings : length counts ≡ n

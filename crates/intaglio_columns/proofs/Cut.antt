@@ -1,16 +1,8 @@
 -- Where the first piece of bytes ends: a line, or a code of four bytes.
-use Rattle.std.proofs.lemmas.Grind.{common_steps}
+use Rattle.intaglio_columns.proofs.Names.{common_steps, position, prefix_len, slice_get, AllByRecursion, length-map, length-take, take-append-drop, take_rest, slice_get-map, lines_of, IsLine, lines_of-are_lines, lines_of-more, code_of, code_pieces, codes_of, StartsWith, last_piece}
 use Rattle.std.proofs.Common.{◌≡◌, ◌∙◌, sym, ap, refl, subst, ℕ, zero, suc, ◌+◌, ◌-◌, ◌*◌, ◌/◌, ◌%◌, ◌≤◌, Bool, true, eqb, eq-eqb, ltb, not, cond, length-drop, List, [], ◌∷◌, ◌++◌, length, take, drop, get_or, Option, None, Some, option_map, append_assoc, arith}
-use Rattle.std.specs.List.{position, prefix_len, slice_get, AllByRecursion}
-use Rattle.std.proofs.lemmas.List.{length-map, length-take, take-append-drop, take_rest}
 use Rattle.std.proofs.lemmas.List.Folds.{prefix_len-append}
-use Rattle.std.proofs.lemmas.Option.{slice_get-map}
-use Rattle.intaglio_lines.specs.Lines.{lines_of}
-use Rattle.intaglio_lines.specs.Decoded.{IsLine}
 use Rattle.intaglio_lines.proofs.LineCuts.{lines-cut-at, lines-cut-nowhere, position-None, position-Some, whole-cut-at}
-use Rattle.intaglio_lines.proofs.ByLines.{lines_of-are_lines, lines_of-more}
-use Rattle.intaglio_columns.specs.Columns.{code_of, code_pieces, codes_of}
-use Rattle.intaglio_columns.specs.Translation.{StartsWith, last_piece}
 
 -- bytes with a byte 10 begin with the line before the first one and go on behind it, whatever follows them
 pub line-starts : (bytes : List ℕ) (end : ℕ) → position (λ b. eqb b 10) bytes ≡ Some end →

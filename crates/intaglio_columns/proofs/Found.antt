@@ -1,8 +1,7 @@
 -- What is found of lines.
 use Rattle.std.proofs.Common.{◌≡◌, ℕ, List, [], ◌∷◌, ◌++◌, Option, Some, None, IfSome, option_map, slice_get, sym, refl, subst}
-use Rattle.std.specs.List.{flat_map}
+use Rattle.intaglio_columns.proofs.Names.{flat_map, AreFound, IsFound, answer_line, position_in}
 use Rattle.intaglio_interner.proofs.Laws.{first-key}
-use Rattle.intaglio_columns.specs.Answers.{AreFound, IsFound, answer_line, position_in}
 
 -- if a string that may be there has the key of a line, it is there and is the line
 same-string : (o : Option (List ℕ)) (line : List ℕ) → option_map (λ w. w ∷ []) o ≡ Some (line ∷ []) →

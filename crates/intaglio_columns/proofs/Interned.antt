@@ -1,22 +1,10 @@
 -- What was interned of an input, and what lines behind it add.
-use Rattle.std.proofs.lemmas.Grind.{common_steps}
+use Rattle.intaglio_columns.proofs.Names.{common_steps, Consumes, IsAtEnd, take-append-drop, interned, interned_all, issue_from, State, is_ended, lines_of, ended-append, lines_of-append, texts, Kind, Allows, distinct_lines, HasInterned, IsInterned, ReadsMore, Consumes-nil, Consumes-trans}
 use Rattle.std.proofs.Common.{◌≡◌, ◌∙◌, ◌⊎◌, inl, inr, sym, ap, refl, subst, ℕ, zero, suc, ◌+◌, ◌-◌, ◌^◌, ◌<◌, ◌≤◌, min, Bool, true, List, [], ◌∷◌, ◌++◌, length, take, drop, get_or, Option, None, Some, IfSome, append_assoc, append-nil, length-append, arith}
-use Rattle.std.specs.Io.KnownBytes.{Consumes, IsAtEnd}
 use Rattle.std.proofs.Math.Seq.{take-suc}
-use Rattle.std.proofs.lemmas.List.{take-append-drop}
 use Rattle.std.proofs.lemmas.Str.{IsUtf8-append, IsUtf8-nil}
-use Rattle.intaglio_interner.specs.Issue.{interned, interned_all, issue_from}
-use Rattle.intaglio_interner.specs.State.{State}
 use Rattle.intaglio_interner.proofs.Held.{interned_all-append, interned_all-longer, issue_from-append}
-use Rattle.intaglio_lines.specs.Decoded.{is_ended}
-use Rattle.intaglio_lines.specs.Lines.{lines_of}
-use Rattle.intaglio_lines.proofs.ByLines.{ended-append, lines_of-append, texts}
-use Rattle.intaglio_frozen.specs.declared.kind.Kind.{Kind}
 use Rattle.intaglio_frozen.specs.declared.kind.Kind.TheVariants.{Bytes, Text}
-use Rattle.intaglio_columns.specs.Frozen.{Allows, distinct_lines}
-use Rattle.intaglio_columns.specs.Interning.{HasInterned, IsInterned}
-use Rattle.intaglio_columns.specs.Translation.{ReadsMore}
-use Rattle.std.proofs.KnownBytes.{Consumes-nil, Consumes-trans}
 
 -- if a kind allows two inputs, it allows the one followed by the other
 allows-append : (kind : Kind) (front lines : List ℕ) → Allows kind front → Allows kind lines →

@@ -1,17 +1,8 @@
 -- Maps in columns, as one map.
 use Rattle.std.proofs.Common.{◌≡◌, ◌≢◌, ◌∙◌, ◌==◌, sym, ap, refl, ℕ, zero, suc, ◌+◌, ◌<◌, ◌≤◌, true, false, List, [], ◌∷◌, ◌++◌, get_or, length, map, take, Some, inl, inr, append_assoc, length-append, arith, eq-eqb}
-use Rattle.std.specs.List.{slice_get, All}
-use Rattle.std.proofs.lemmas.List.{length-map, map-append}
-use Rattle.std.proofs.lemmas.Bool.{true≢false}
-use Rattle.std.proofs.lemmas.Option.{get_or_from_slice_get, slice_get-get_or, slice_get_within}
-use Rattle.intaglio_frozen.specs.Shards.{AreWithin, joined, joined_map, sum_of}
-use Rattle.intaglio_frozen.proofs.Joined.{map-push}
+use Rattle.intaglio_columns.proofs.Names.{slice_get, All, length-map, map-append, true≢false, get_or_from_slice_get, slice_get-get_or, slice_get_within, AreWithin, joined, joined_map, sum_of, map-push, rows, strings, rows_from, missing, IsMapColumn, joined_codes}
 use Rattle.intaglio_columns.proofs.CodesInFile.{all_length}
-use Rattle.intaglio_columns.specs.Layout.{codes, rows, strings}
-use Rattle.intaglio_columns.specs.Rows.{rows_from}
-use Rattle.intaglio_columns.specs.Width.{missing}
-use Rattle.intaglio_columns.specs.Joining.{IsMapColumn}
-use Rattle.intaglio_columns.specs.Renumbering.{joined_codes}
+use Rattle.intaglio_columns.specs.Layout.{codes}
 use Rattle.intaglio_columns.proofs.Listed.{next}
 use Rattle.intaglio_columns.proofs.Unknown.{none_pass}
 

@@ -1,3 +1,5 @@
+-- What the proofs share.
+mod Names
 -- Lemmas on the bytes of a column.
 pub mod Checksums
 pub mod CodesInFile

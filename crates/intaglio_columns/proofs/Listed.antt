@@ -1,12 +1,6 @@
 -- What is made of the items of a list, one after the other.
 use Rattle.std.proofs.Common.{◌≡◌, ◌∙◌, ℕ, ◌+◌, List, [], ◌∷◌, ◌++◌, take, Option, Some, refl, ap, sym}
-use Rattle.std.specs.List.{slice_get, flat_map, fold}
-use Rattle.std.specs.Io.KnownBytes.{Appends, append_known}
-use Rattle.std.proofs.lemmas.List.{append-nil}
-use Rattle.std.proofs.lemmas.Grind.{flat_map-append, fold-append, take_at_read}
-use Rattle.std.proofs.lemmas.Option.{slice_get_within, get_or_from_slice_get}
-use Rattle.intaglio_lines.specs.Puts.{IsFront}
-use Rattle.intaglio_lines.proofs.Appended.{Appends-append, front-then}
+use Rattle.intaglio_columns.proofs.Names.{slice_get, flat_map, fold, Appends, append_known, append-nil, flat_map-append, fold-append, take_at_read, slice_get_within, get_or_from_slice_get, IsFront, Appends-append, front-then}
 
 module _ {X : Type 0} (xs : List X) (n : ℕ) (x : X) (at : slice_get xs n ≡ Some x) where
   -- the items so far, and the next one

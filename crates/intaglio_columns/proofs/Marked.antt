@@ -1,6 +1,6 @@
 -- Which of the first marks are set.
 use Rattle.std.proofs.Common.{◌≡◌, ℕ, ◌<◌, ◌==◌, Bool, false, List, get_or, Option, None, Some}
-use Rattle.intaglio_columns.specs.Width.{missing}
+use Rattle.intaglio_columns.proofs.Names.{missing}
 
 -- whether a position is the given one, and false if none is given
 abbrev pub is_only : Option ℕ → ℕ → Bool

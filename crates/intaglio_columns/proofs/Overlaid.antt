@@ -1,11 +1,7 @@
 -- A list that is written over places, item by item.
-use Rattle.std.proofs.lemmas.Grind.{common_steps}
+use Rattle.intaglio_columns.proofs.Names.{common_steps, IsFirstRow, overlaid, rows_from, rows_past, cases_lt, get_or-drop, slice_get-get_or, slice_get_within, get_or_from_slice_get}
 use Rattle.std.proofs.Common.{◌≡◌, ◌∙◌, ℕ, ◌+◌, ◌<◌, ◌≤◌, Bool, List, [], ◌∷◌, ◌++◌, length, set, sym, ap, arith, length-append, zero, suc, take, drop, slice_get, Some, refl, length-drop, length-take-le}
-use Rattle.intaglio_columns.specs.Rows.{IsFirstRow, overlaid, rows_from, rows_past}
 use Rattle.intaglio_columns.proofs.Past.{more_rows_of}
-use Rattle.std.proofs.lemmas.Bool.{cases_lt}
-use Rattle.std.proofs.lemmas.List.{get_or-drop}
-use Rattle.std.proofs.lemmas.Option.{slice_get-get_or, slice_get_within, get_or_from_slice_get}
 use Rattle.intaglio_columns.proofs.Listed.{next}
 
 -- one more, where there is a place for it

@@ -1,14 +1,6 @@
 -- The part of a translation that is written before an error.
 use Rattle.std.proofs.Common.{◌≡◌, ◌∙◌, sym, ap, refl, subst, ℕ, ◌+◌, ◌-◌, ◌^◌, min, Bool, true, false, List, [], ◌∷◌, ◌++◌, length, length-append, append-nil, append_assoc, arith, Option, Result, Ok, Err, IfErr, IsErrAnd, OnErr}
-use Rattle.std.specs.List.{flat_map}
-use Rattle.std.specs.Io.KnownBytes.{Appends, append_known}
-use Rattle.std.proofs.lemmas.Grind.{flat_map-append}
-use Rattle.std.proofs.lemmas.List.Elements.{All-nil, All-cons, All-append}
-use Rattle.intaglio_lines.specs.Puts.{IsFront}
-use Rattle.intaglio_lines.proofs.Appended.{front-none, front-then}
-use Rattle.intaglio_columns.specs.Translation.{AllFit, ReportsAmong, ReportsPiece, WritesPart}
-use Rattle.intaglio_columns.specs.declared.translate.TranslateError.{TranslateError}
-use Rattle.intaglio_columns.specs.declared.translate.TranslateError.TheVariants.{Misfit, Stream}
+use Rattle.intaglio_columns.proofs.Names.{flat_map, Appends, append_known, flat_map-append, All-nil, All-cons, All-append, IsFront, front-none, front-then, AllFit, ReportsAmong, ReportsPiece, WritesPart, TranslateError, Misfit, Stream}
 
 -- what holds anyway holds after an error
 pub on-err : {V E P : Type 0} (r : Result V E) → P → OnErr r P

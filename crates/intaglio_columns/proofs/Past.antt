@@ -1,10 +1,7 @@
 -- The rows from one on whose codes pass a test.
 use Rattle.std.proofs.Common.{◌≡◌, ◌∙◌, ℕ, suc, ◌+◌, ◌<◌, ◌≤◌, inl, inr, Bool, true, false, cond, List, [], ◌∷◌, ◌++◌, length, get_or, refl, sym, ap, arith, append_assoc}
-use Rattle.std.specs.List.{count_by}
-use Rattle.std.proofs.lemmas.Bool.{cases_Bool}
-use Rattle.std.proofs.lemmas.List.{drop_all, drop_more}
+use Rattle.intaglio_columns.proofs.Names.{count_by, cases_Bool, drop_all, drop_more, CountsAmong, IsFirstRow, rows_from, rows_past}
 use Rattle.std.proofs.lemmas.List.Recursion.{is_count_by}
-use Rattle.intaglio_columns.specs.Rows.{CountsAmong, IsFirstRow, rows_from, rows_past}
 
 module _ (p : ℕ → Bool) (cs : List ℕ) (row : ℕ) where
   past_step : row < length cs →

@@ -1,22 +1,11 @@
 -- Lines that are added to others, and lines of selected rows.
-use Rattle.std.proofs.lemmas.Grind.{common_steps}
+use Rattle.intaglio_columns.proofs.Names.{common_steps, flat_map, Appends, append-nil, flat_map-append, cases_lt, get_or_from_slice_get, slice_get-get_or, IsFirstRow, rows_from, rows_past, number_line, Appends-append, AreRangesBefore, IsRangeFault, IsRowsFault, Appends-nil}
 use Rattle.std.proofs.Common.{◌≡◌, ◌∙◌, ℕ, ◌+◌, ◌<◌, Bool, List, [], ◌∷◌, ◌++◌, length, take, get_or, slice_get, Option, Some, refl, ap, append_assoc, arith}
-use Rattle.std.specs.List.{flat_map}
-use Rattle.std.specs.Io.KnownBytes.{Appends}
-use Rattle.std.proofs.lemmas.List.{append-nil}
-use Rattle.std.proofs.lemmas.Grind.{flat_map-append}
-use Rattle.std.proofs.lemmas.Bool.{cases_lt}
-use Rattle.std.proofs.lemmas.Option.{get_or_from_slice_get, slice_get-get_or}
-use Rattle.intaglio_columns.specs.Rows.{IsFirstRow, rows_from, rows_past}
 use Rattle.intaglio_columns.proofs.Past.{more_rows_of}
-use Rattle.intaglio_lines.specs.Output.{number_line}
-use Rattle.intaglio_lines.proofs.Appended.{Appends-append}
-use Rattle.intaglio_columns.specs.RowLines.{AreRangesBefore, IsRangeFault, IsRowsFault}
 use Rattle.intaglio_columns.specs.declared.rows.RowRange.{RowRange}
 use Rattle.intaglio_columns.specs.declared.error.RowsError.{RowsError}
 use Rattle.intaglio_columns.specs.declared.error.RowsError.TheVariants.{NoRow, NoLine, Stream}
 use Rattle.intaglio_columns.proofs.Listed.{flat_map-next}
-use Rattle.std.proofs.KnownBytes.{Appends-nil}
 
 -- one more line of the items of a list, behind those before it
 pub after_next : {X Y : Type 0} (xs : List X) (n : ℕ) (x : X) → slice_get xs n ≡ Some x →

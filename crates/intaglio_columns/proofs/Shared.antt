@@ -1,21 +1,13 @@
 -- Lists that are shared out to shards.
-use Rattle.std.proofs.lemmas.Grind.{common_steps}
+use Rattle.intaglio_columns.proofs.Names.{common_steps, length-map, take_all, set_of_shards, Kind, State, lines_of, decode, renumber, first_shards, joined, shard, renumbered, distinct_lines, id_of, set_of, IsShared, KeepsInput}
 use Rattle.std.proofs.Common.{◌≡◌, ◌∙◌, sym, ap, refl, ℕ, zero, suc, ◌≤◌, List, [], ◌∷◌, length, length-append, map, take, Some, arith}
-use Rattle.std.proofs.lemmas.List.{length-map, take_all}
 use Rattle.std.proofs.lemmas.Simd.{map-map}
-use Rattle.intaglio_frozen.specs.SetId.{set_of_shards}
 use Rattle.intaglio_frozen.specs.declared.id.DictionaryId.{DictionaryId}
-use Rattle.intaglio_frozen.specs.declared.kind.Kind.{Kind}
 use Rattle.intaglio_frozen.specs.declared.set_id.SetId.{SetId}
-use Rattle.intaglio_interner.specs.State.{State}
-use Rattle.intaglio_lines.specs.Lines.{lines_of}
-use Rattle.intaglio_frozen.specs.Merging.{decode, missing, renumber}
-use Rattle.intaglio_frozen.specs.Shards.{first_shards, joined, shard, shards}
+use Rattle.intaglio_frozen.specs.Merging.{missing}
+use Rattle.intaglio_frozen.specs.Shards.{shards}
 use Rattle.intaglio_frozen.proofs.Absorbed.{issued-map}
 use Rattle.intaglio_frozen.proofs.Numbered.{few-strings}
-use Rattle.intaglio_frozen.proofs.Renumbered.{renumbered}
-use Rattle.intaglio_columns.specs.Frozen.{distinct_lines}
-use Rattle.intaglio_columns.specs.Sharding.{id_of, set_of, IsShared, KeepsInput}
 
 -- as many shards are made as are asked for
 first-length : (many s : ℕ) (strings : List (List ℕ)) → length (first_shards many strings s) ≡ s

@@ -1,14 +1,6 @@
 -- An input that is translated piece by piece.
 use Rattle.std.proofs.Common.{◌≡◌, ◌∙◌, sym, ap, refl, subst, ℕ, ◌+◌, ◌-◌, ◌^◌, min, eqb, Bool, true, false, Result, Ok, Err, IfOk, OnOk, List, [], ◌∷◌, ◌++◌, length, Option, None, Some, IfSome, length-append, append-nil, append_assoc, arith}
-use Rattle.std.specs.List.{flat_map}
-use Rattle.std.specs.Io.KnownBytes.{Appends, Consumes, IsAtEnd, append_known}
-use Rattle.std.proofs.lemmas.Grind.{flat_map-append}
-use Rattle.std.proofs.lemmas.List.Elements.{All-nil, All-cons, All-append}
-use Rattle.intaglio_lines.specs.Puts.{IsFront}
-use Rattle.intaglio_lines.proofs.Appended.{Appends-append, front-none, front-then, held-none, held-nothing}
-use Rattle.intaglio_columns.specs.Translation.{AllFit, HasTranslated, IsFailure, IsSplit, ReadsMore, ReportsAmong, ReportsMisfit, ReportsPiece, WritesPart, last_piece}
-use Rattle.intaglio_columns.specs.declared.translate.TranslateError.{TranslateError}
-use Rattle.intaglio_columns.specs.declared.translate.TranslateError.TheVariants.{Misfit, Stream}
+use Rattle.intaglio_columns.proofs.Names.{flat_map, Appends, Consumes, IsAtEnd, append_known, flat_map-append, All-nil, All-cons, All-append, IsFront, Appends-append, front-none, front-then, held-none, held-nothing, AllFit, HasTranslated, IsFailure, IsSplit, ReadsMore, ReportsAmong, ReportsMisfit, ReportsPiece, WritesPart, last_piece, TranslateError, Misfit, Stream}
 use Rattle.intaglio_columns.proofs.Parts.{no-part, part-behind, reports-at}
 
 module _ (pieces : List ℕ → List (List ℕ)) where

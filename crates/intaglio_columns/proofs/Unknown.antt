@@ -1,11 +1,6 @@
 -- Codes that are neither those of strings nor missing.
-use Rattle.std.proofs.lemmas.Grind.{common_steps}
+use Rattle.intaglio_columns.proofs.Names.{common_steps, nat_tests, get_or_from_slice_get, slice_get-get_or, slice_get_within, AreCodes, IsCode, is_unknown, HasNoString, IsNextRow, rows_from}
 use Rattle.std.proofs.Common.{◌≡◌, ◌≢◌, ◌∙◌, ℕ, zero, suc, ◌+◌, ◌<◌, ◌≤◌, inl, inr, Bool, true, false, cond, List, [], ◌∷◌, length, get_or, slice_get, Option, None, Some, MatchOption, refl, subst, sym, ap, arith}
-use Rattle.std.proofs.lemmas.Bool.Decides.{nat_tests}
-use Rattle.std.proofs.lemmas.Option.{get_or_from_slice_get, slice_get-get_or, slice_get_within}
-use Rattle.intaglio_columns.specs.Codes.{AreCodes, IsCode, is_unknown}
-use Rattle.intaglio_columns.specs.Fault.{HasNoString}
-use Rattle.intaglio_columns.specs.Rows.{IsNextRow, rows_from}
 
 -- a row before the first one that passes doesn't pass, or is before the others
 first-past : (k d i : ℕ) (b : Bool) (rest : List ℕ) → k + i < get_or (cond b (k ∷ rest) rest) 0 d →

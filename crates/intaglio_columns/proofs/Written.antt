@@ -1,26 +1,10 @@
 -- What is written of codes is a column of them.
-use Rattle.std.proofs.lemmas.Grind.{common_steps}
+use Rattle.intaglio_columns.proofs.Names.{common_steps, append_assoc, flat_map, w16, w32, w64, to_le_bytes, ne_eqb, get_or-append-add, number, bytes_of, greatest, missing, width_for, fits, checksum_of, codes_at, kind, widened, rows, source_kind, source_of, strings, width, AreCodes, IsCode, HasGap, rows_of, HasChecksum, IsHeaderOf, end_of, magic, HasRanges, code_bytes, file_of, header_for, header_of, reserved_bytes, source_bytes, start_of, RowSource, Width, One, Two, Four}
 use Rattle.std.proofs.Common.{◌≡◌, ◌≢◌, ◌∙◌, ◌==◌, ℕ, zero, suc, ◌+◌, ◌*◌, ◌/◌, ◌%◌, ◌^◌, ◌<◌, ◌≤◌, inl, inr, ◌⊎◌, true, false, List, [], ◌∷◌, ◌++◌, length, slice_get, Some, Bool, refl, sym, ap, subst, arith, eq-eqb, length-append}
-use Rattle.std.proofs.lemmas.List.{append_assoc}
-use Rattle.std.specs.List.{flat_map}
-use Rattle.std.specs.Int.{w16, w32, w64, to_le_bytes}
-use Rattle.std.proofs.lemmas.Bool.{ne_eqb}
-use Rattle.std.proofs.lemmas.List.{get_or-append-add}
-use Rattle.intaglio_hash.specs.Push.{number}
 use Rattle.intaglio_hash.specs.Numbers.{u32_at, u64_at}
 use Rattle.intaglio_frozen.specs.Id.{kind_number}
-use Rattle.intaglio_columns.specs.Width.{bytes_of, greatest, missing, width_for}
-use Rattle.intaglio_columns.specs.Source.{fits}
-use Rattle.intaglio_columns.specs.Layout.{checksum_of, code_at, codes_at, codes, kind, widened, rows, source_kind, source_of, strings, width}
-use Rattle.intaglio_columns.specs.Codes.{AreCodes, IsCode}
-use Rattle.intaglio_columns.specs.Fault.{HasGap}
-use Rattle.intaglio_columns.specs.Rows.{rows_of}
-use Rattle.intaglio_columns.specs.IsColumn.{HasChecksum, IsHeaderOf, end_of, magic}
-use Rattle.intaglio_columns.specs.Writing.{HasRanges, code_bytes, file_of, header_for, header_of, reserved_bytes, source_bytes, start_of}
+use Rattle.intaglio_columns.specs.Layout.{code_at, codes}
 use Rattle.intaglio_columns.specs.declared.file.header.ColumnHeader.{ColumnHeader}
-use Rattle.intaglio_columns.specs.declared.file.source.RowSource.{RowSource}
-use Rattle.intaglio_columns.specs.declared.file.width.Width.{Width}
-use Rattle.intaglio_columns.specs.declared.file.width.Width.TheVariants.{One, Two, Four}
 
 -- a number behind other bytes
 number_behind : (xs ys : List ℕ) (j n : ℕ) → number (xs ++ ys) (length xs) j n ≡ number ys 0 j n

@@ -1,5 +1,5 @@
 use Rattle.std.proofs.Common.{◌∙◌, ◌++◌, [], ◌∷◌, sym, ap, append_assoc}
-use Rattle.intaglio_lines.specs.Lines.{lines_of}
+use Rattle.intaglio_columns.proofs.Names.{lines_of}
 use Rattle.intaglio_columns.proofs.Found.{found-next}
 use Rattle.intaglio_columns.proofs.answer.look_up_lines.Goals as goal
 

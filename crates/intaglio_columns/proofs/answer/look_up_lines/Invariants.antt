@@ -1,7 +1,6 @@
 -- What was found of the lines so far: together with the lines that are left they are all lines.
 use Rattle.std.proofs.Common.{◌≡◌, ℕ, List, ◌++◌, length}
-use Rattle.intaglio_lines.specs.Lines.{lines_of}
-use Rattle.intaglio_columns.specs.Answers.{AreFound}
+use Rattle.intaglio_columns.proofs.Names.{lines_of, AreFound}
 use Rattle.intaglio_columns.proofs.answer.look_up_lines.Given as goal
 
 abbrev pub invariant-loop-rest : goal.invariant-loop-rest

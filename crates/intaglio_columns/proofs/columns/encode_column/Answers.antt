@@ -1,7 +1,5 @@
 use Rattle.std.proofs.Common.{subst, arith}
-use Rattle.intaglio_lines.specs.Lines.{lines_of}
-use Rattle.intaglio_columns.specs.Columns.{has_code}
-use Rattle.intaglio_columns.specs.Translation.{AllFit}
+use Rattle.intaglio_columns.proofs.Names.{lines_of, has_code, AllFit}
 use Rattle.intaglio_columns.proofs.Coded.{decodes-to-input, if-some}
 use Rattle.intaglio_columns.proofs.columns.encode_column.Goals as goal
 

@@ -1,6 +1,5 @@
 use Rattle.std.proofs.Common.{◌≡◌, ◌∙◌, ℕ, [], get_or, slice_get, Some, ap, sym}
-use Rattle.std.proofs.lemmas.Option.{get_or_from_slice_get, slice_get-get_or}
-use Rattle.intaglio_columns.specs.Counting.{count_line, rank_line}
+use Rattle.intaglio_columns.proofs.Names.{get_or_from_slice_get, slice_get-get_or, count_line, rank_line}
 use Rattle.intaglio_columns.proofs.Listed.{same-next}
 use Rattle.intaglio_columns.proofs.counting.counted_strings.Goals as goal
 

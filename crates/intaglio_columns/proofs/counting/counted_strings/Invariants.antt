@@ -1,7 +1,6 @@
 -- The lines of the ranks so far.
 use Rattle.std.proofs.Common.{◌≡◌, take}
-use Rattle.std.specs.List.{flat_map}
-use Rattle.intaglio_columns.specs.Counting.{count_line, rank_line}
+use Rattle.intaglio_columns.proofs.Names.{flat_map, count_line, rank_line}
 use Rattle.intaglio_columns.proofs.counting.counted_strings.Given as goal
 
 abbrev pub invariant-loop-rank : goal.invariant-loop-rank

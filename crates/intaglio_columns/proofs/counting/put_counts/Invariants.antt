@@ -1,8 +1,6 @@
 -- The lines so far were put.
 use Rattle.std.proofs.Common.{take}
-use Rattle.std.specs.List.{flat_map}
-use Rattle.std.specs.Io.KnownBytes.{Appends, append_known}
-use Rattle.intaglio_columns.specs.Counting.{count_line}
+use Rattle.intaglio_columns.proofs.Names.{flat_map, Appends, append_known, count_line}
 use Rattle.intaglio_columns.proofs.counting.put_counts.Given as goal
 
 abbrev pub invariant-loop-count : goal.invariant-loop-count

@@ -1,10 +1,6 @@
 -- The rows that a test selects, among the codes so far.
 use Rattle.std.proofs.Common.{◌≡◌, ◌∙◌, ℕ, suc, ◌+◌, ◌<◌, Bool, true, false, cond, List, [], ◌∷◌, ◌++◌, length, map, take, get_or, refl, ap, arith, length-take-le, ◌==◌, not, sym, eq-eqb}
-use Rattle.std.proofs.lemmas.Grind.{take_at_read}
-use Rattle.std.proofs.lemmas.List.{append-nil, map-append}
-use Rattle.intaglio_columns.specs.Rows.{rows_from}
-use Rattle.std.proofs.lemmas.Bool.{ne_eqb}
-use Rattle.intaglio_columns.specs.Counting.{rank_of}
+use Rattle.intaglio_columns.proofs.Names.{take_at_read, append-nil, map-append, rows_from, ne_eqb, rank_of}
 use Rattle.intaglio_columns.proofs.counting.ranks.Goals as goal
 
 -- putting a number in front of a list, or not, comes to the same before and after an append

@@ -1,7 +1,6 @@
 -- The ranks of the symbols so far.
 use Rattle.std.proofs.Common.{◌≡◌, ◌==◌, not, map, take}
-use Rattle.intaglio_columns.specs.Rows.{rows_from}
-use Rattle.intaglio_columns.specs.Counting.{rank_of}
+use Rattle.intaglio_columns.proofs.Names.{rows_from, rank_of}
 use Rattle.intaglio_columns.proofs.counting.ranks.Given as goal
 
 abbrev pub invariant-loop-symbol : goal.invariant-loop-symbol

@@ -1,16 +1,11 @@
 -- The ranks of symbols whose strings occur.
-use Rattle.std.proofs.lemmas.Grind.{common_steps}
+use Rattle.intaglio_columns.proofs.Names.{common_steps, All, cases_Bool, All-contains, All-map, AreCounts, rows_past, AreInOrder, IsCountsFault, IsRankFault, occurring, rank_of, ranks, strings}
 use Rattle.std.proofs.Common.{◌≡◌, ℕ, zero, suc, ◌+◌, ◌<◌, ◌==◌, inl, inr, Bool, not, List, length, get_or, sym, subst, arith}
-use Rattle.std.specs.List.{All}
-use Rattle.std.proofs.lemmas.Bool.{cases_Bool}
-use Rattle.std.proofs.lemmas.List.Elements.{All-contains, All-map}
 use Rattle.std.proofs.lemmas.List.Sorted.{All-permutation}
-use Rattle.intaglio_columns.specs.Rows.{AreCounts, rows_past}
 use Rattle.intaglio_columns.proofs.Past.{past_no}
-use Rattle.intaglio_columns.specs.Counting.{AreInOrder, IsCountsFault, IsRankFault, occurring, rank_of, ranks}
 use Rattle.intaglio_columns.specs.declared.error.DictionaryError.{DictionaryError}
 use Rattle.intaglio_columns.specs.declared.error.DictionaryError.TheVariants.{NoString, Stream}
-use Rattle.intaglio_columns.specs.Layout.{codes, strings}
+use Rattle.intaglio_columns.specs.Layout.{codes}
 use Rattle.intaglio_columns.proofs.Parts.{passed-on}
 use Rattle.intaglio_columns.proofs.counting.write_counts.Goals as goal
 

@@ -1,5 +1,5 @@
 use Rattle.std.proofs.Common.{◌≡◌, ◌∙◌, ◌+◌, ◌-◌, ◌++◌, [], ◌∷◌, ap, length, arith}
-use Rattle.std.proofs.lemmas.List.{take_rest}
+use Rattle.intaglio_columns.proofs.Names.{take_rest}
 use Rattle.intaglio_columns.proofs.encoding.first_lines.Goals as goal
 
 pub first_whole_line-requires-clause-within : goal.first_whole_line-requires-clause-within

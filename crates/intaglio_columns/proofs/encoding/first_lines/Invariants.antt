@@ -1,8 +1,6 @@
 -- The lines so far are at the front.
 use Rattle.std.proofs.Common.{◌≡◌, ◌-◌, ◌≤◌, [], drop, length, map, take, vec_len, vec_capacity}
-use Rattle.intaglio_lines.specs.Lines.{lines_of}
-use Rattle.intaglio_columns.specs.Columns.{HasNoEnd}
-use Rattle.intaglio_columns.specs.Translation.{StartsWith}
+use Rattle.intaglio_columns.proofs.Names.{lines_of, HasNoEnd, StartsWith}
 use Rattle.intaglio_columns.proofs.encoding.first_lines.Given as goal
 
 abbrev pub invariant-loop-skip : goal.invariant-loop-skip

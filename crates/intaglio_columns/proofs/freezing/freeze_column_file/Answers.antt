@@ -1,6 +1,6 @@
 use Rattle.std.proofs.Common.{inr, refl, rules}
 use Rattle.intaglio_frozen.specs.Freezing.{IsRefusal as IsTableRefusal}
-use Rattle.intaglio_columns.specs.Frozen.{distinct_lines}
+use Rattle.intaglio_columns.proofs.Names.{distinct_lines}
 use Rattle.intaglio_columns.proofs.Coded.{if-some}
 use Rattle.intaglio_columns.proofs.Parts.{passed-on}
 use Rattle.intaglio_columns.proofs.freezing.freeze_column_file.Goals as goal

@@ -1,5 +1,5 @@
 use Rattle.intaglio_frozen.specs.Freezing.{IsRefusal as IsTableRefusal}
-use Rattle.intaglio_columns.specs.Frozen.{distinct_lines}
+use Rattle.intaglio_columns.proofs.Names.{distinct_lines}
 use Rattle.intaglio_columns.proofs.Coded.{if-some}
 use Rattle.intaglio_columns.proofs.Parts.{passed-on}
 use Rattle.intaglio_columns.proofs.freezing.freeze_lines.Goals as goal

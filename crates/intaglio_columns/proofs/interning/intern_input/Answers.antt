@@ -1,5 +1,5 @@
 use Rattle.std.proofs.Common.{◌≡◌, rules}
-use Rattle.intaglio_columns.specs.Frozen.{IsRefusal}
+use Rattle.intaglio_columns.proofs.Names.{IsRefusal}
 use Rattle.intaglio_columns.proofs.Interned.{all-interned, allows-nothing, more-interned, more-read, none-interned, of-any, said-of-last, said-of-lines}
 use Rattle.intaglio_columns.proofs.Parts.{passed-on}
 use Rattle.intaglio_columns.proofs.interning.intern_input.Goals as goal

@@ -1,5 +1,5 @@
 -- Whole lines at the front of what was read are interned.
-use Rattle.intaglio_columns.specs.Interning.{HasInterned}
+use Rattle.intaglio_columns.proofs.Names.{HasInterned}
 use Rattle.intaglio_columns.proofs.interning.intern_input.Given as goal
 
 abbrev pub invariant-loop : goal.invariant-loop

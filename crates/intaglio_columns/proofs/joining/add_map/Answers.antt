@@ -1,6 +1,5 @@
-use Rattle.std.proofs.lemmas.Grind.{common_steps}
+use Rattle.intaglio_columns.proofs.Names.{common_steps, slice_get}
 use Rattle.std.proofs.Common.{◌≡◌, ◌<◌, ◌∙◌, ◌++◌, [], ◌∷◌, ap, arith, rules, Some, sym}
-use Rattle.std.specs.List.{slice_get}
 use Rattle.intaglio_columns.specs.Layout.{codes}
 use Rattle.intaglio_columns.proofs.JoinedMaps.{added-next, below-at}
 use Rattle.intaglio_columns.proofs.joining.add_map.Goals as goal

@@ -1,8 +1,5 @@
-use Rattle.std.proofs.lemmas.Grind.{common_steps}
+use Rattle.intaglio_columns.proofs.Names.{common_steps, slice_get, slice_get_read, strings}
 use Rattle.std.proofs.Common.{◌≡◌, arith, refl, rules, Some}
-use Rattle.std.specs.List.{slice_get}
-use Rattle.std.proofs.lemmas.Option.{slice_get_read}
-use Rattle.intaglio_columns.specs.Layout.{strings}
 use Rattle.intaglio_columns.proofs.JoinedMaps.{all-within, joined-next, sum-next, sum-within}
 use Rattle.intaglio_columns.proofs.joining.join_maps.Goals as goal
 

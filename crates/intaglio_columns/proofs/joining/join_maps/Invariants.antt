@@ -1,8 +1,6 @@
 -- The maps so far were joined.
 use Rattle.std.proofs.Common.{◌≡◌, map, take}
-use Rattle.intaglio_frozen.specs.Shards.{sum_of}
-use Rattle.intaglio_columns.specs.Layout.{strings}
-use Rattle.intaglio_columns.specs.Renumbering.{joined_codes}
+use Rattle.intaglio_columns.proofs.Names.{sum_of, strings, joined_codes}
 use Rattle.intaglio_columns.proofs.joining.join_maps.Given as goal
 
 abbrev pub invariant-loop-map : goal.invariant-loop-map

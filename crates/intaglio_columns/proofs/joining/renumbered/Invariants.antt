@@ -1,6 +1,6 @@
 -- The new codes so far.
 use Rattle.std.proofs.Common.{◌≡◌, ◌≤◌, length, take, vec_len, vec_capacity}
-use Rattle.intaglio_frozen.specs.Merging.{renumber}
+use Rattle.intaglio_columns.proofs.Names.{renumber}
 use Rattle.intaglio_columns.proofs.joining.renumbered.Given as goal
 
 abbrev pub invariant-loop-i : goal.invariant-loop-i

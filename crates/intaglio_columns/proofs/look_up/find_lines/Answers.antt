@@ -1,6 +1,4 @@
-use Rattle.intaglio_lines.specs.Lines.{lines_of}
-use Rattle.intaglio_lines.specs.Puts.{Writes}
-use Rattle.intaglio_columns.specs.Answers.{answers}
+use Rattle.intaglio_columns.proofs.Names.{lines_of, Writes, answers}
 use Rattle.intaglio_columns.proofs.Found.{found-answers, of-input}
 use Rattle.intaglio_columns.proofs.look_up.find_lines.Goals as goal
 

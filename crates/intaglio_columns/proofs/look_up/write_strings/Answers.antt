@@ -1,9 +1,6 @@
 -- Where no symbol is too large, all are small enough.
 use Rattle.std.proofs.Common.{◌≡◌, sym, refl, ℕ, ◌<◌, Bool, true, false, cond, nat_le, leb-false, List, [], ◌∷◌, Some, None, All, rules}
-use Rattle.std.specs.List.{find, AllByRecursion}
-use Rattle.std.proofs.lemmas.Option.{none-some}
-use Rattle.std.proofs.lemmas.List.Elements.{All-from_recursion}
-use Rattle.intaglio_columns.specs.Answers.{unknown}
+use Rattle.intaglio_columns.proofs.Names.{find, AllByRecursion, none-some, All-from_recursion, unknown}
 use Rattle.intaglio_columns.proofs.Parts.{passed-on}
 use Rattle.intaglio_columns.proofs.look_up.write_strings.Goals as goal
 

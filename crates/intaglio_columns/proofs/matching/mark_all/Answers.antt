@@ -1,11 +1,6 @@
 -- The symbols of words are marked, one word after the other.
 use Rattle.std.proofs.Common.{◌≡◌, ◌∙◌, ℕ, ◌<◌, ◌≤◌, inl, inr, Bool, true, false, List, [], ◌∷◌, ◌++◌, length, get_or, set, slice_get, Contains, Option, Some, sym, ap, arith, length-set, get_or-set_other, ◌+◌, Bor, map, take}
-use Rattle.std.proofs.lemmas.Bool.{cases_eq, cases_lt}
-use Rattle.std.proofs.lemmas.Grind.{get_or-set_at, common_steps}
-use Rattle.std.proofs.lemmas.List.Elements.{Contains-append_left, Contains-push, Contains-push_cases}
-use Rattle.intaglio_columns.specs.Answers.{position_in}
-use Rattle.intaglio_columns.specs.Matching.{AreMarked}
-use Rattle.std.proofs.lemmas.Option.{slice_get-get_or}
+use Rattle.intaglio_columns.proofs.Names.{cases_eq, cases_lt, get_or-set_at, common_steps, Contains-append_left, Contains-push, Contains-push_cases, position_in, AreMarked, slice_get-get_or}
 use Rattle.intaglio_columns.proofs.matching.mark_all.Goals as goal
 use Rattle.intaglio_columns.proofs.matching.mark_all.Goals.{in-Some, in_default}
 

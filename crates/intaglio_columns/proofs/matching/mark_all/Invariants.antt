@@ -1,6 +1,6 @@
 -- The symbols of the strings so far are marked.
 use Rattle.std.proofs.Common.{length, map, take}
-use Rattle.intaglio_columns.specs.Matching.{AreMarked}
+use Rattle.intaglio_columns.proofs.Names.{AreMarked}
 use Rattle.intaglio_columns.proofs.matching.mark_all.Given as goal
 
 abbrev pub invariant-loop-string : goal.invariant-loop-string

@@ -1,6 +1,6 @@
 -- The numbers of the rows so far were put.
 use Rattle.std.proofs.Common.{◌-◌, ◌==◌, length}
-use Rattle.std.specs.Io.KnownBytes.{append_known}
+use Rattle.intaglio_columns.proofs.Names.{append_known}
 use Rattle.intaglio_columns.specs.Layout.{codes}
 use Rattle.intaglio_columns.proofs.Ranged.{HavePut}
 use Rattle.intaglio_columns.proofs.matching.put_rows_of.Given as goal

@@ -1,6 +1,5 @@
 use Rattle.std.proofs.Common.{◌≡◌, ◌∙◌, ap, map, subst}
-use Rattle.std.proofs.lemmas.List.{map-id}
-use Rattle.intaglio_frozen.specs.Merging.{union, AreMaps}
+use Rattle.intaglio_columns.proofs.Names.{map-id, union, AreMaps}
 use Rattle.intaglio_columns.proofs.merging.merged_tables.Goals as goal
 
 pub returns-in-Ok-clause-maps : goal.returns-in-Ok-clause-maps

@@ -1,8 +1,5 @@
-use Rattle.std.proofs.lemmas.Grind.{common_steps}
+use Rattle.intaglio_columns.proofs.Names.{common_steps, slice_get, slice_get-get_or, slice_get_read, slice_get_within, LeadAlike}
 use Rattle.std.proofs.Common.{◌≡◌, ◌∙◌, [], below_more, arith, get_or, refl, rules, Some}
-use Rattle.std.specs.List.{slice_get}
-use Rattle.std.proofs.lemmas.Option.{slice_get-get_or, slice_get_read, slice_get_within}
-use Rattle.intaglio_columns.specs.Renumbering.{LeadAlike}
 use Rattle.intaglio_columns.proofs.Agreed.{LeadsRight, first-is, right-at}
 use Rattle.intaglio_columns.proofs.renumbering.check_each.Goals as goal
 

@@ -1,7 +1,6 @@
 use Rattle.std.proofs.Common.{◌∙◌, ap, subst, sym}
 use Rattle.intaglio_columns.specs.Layout.{codes}
-use Rattle.intaglio_frozen.specs.Merging.{renumber}
-use Rattle.intaglio_columns.specs.Renumbering.{KeepsLines}
+use Rattle.intaglio_columns.proofs.Names.{renumber, KeepsLines}
 use Rattle.intaglio_columns.proofs.Agreed.{are-maps, fits-first, keeps}
 use Rattle.intaglio_columns.proofs.renumbering.renumber_by_maps.Goals as goal
 

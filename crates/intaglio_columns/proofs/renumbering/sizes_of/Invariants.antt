@@ -1,7 +1,6 @@
 -- The sizes of the maps so far.
 use Rattle.std.proofs.Common.{◌≡◌, ◌-◌, ◌^◌, map, min, take}
-use Rattle.intaglio_frozen.specs.Shards.{sum_of}
-use Rattle.intaglio_columns.specs.Layout.{rows, strings}
+use Rattle.intaglio_columns.proofs.Names.{sum_of, rows, strings}
 use Rattle.intaglio_columns.proofs.renumbering.sizes_of.Given as goal
 
 abbrev pub invariant-loop-map : goal.invariant-loop-map

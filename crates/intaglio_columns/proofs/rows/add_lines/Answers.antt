@@ -1,9 +1,7 @@
 use Rattle.std.proofs.Common.{◌≡◌, ◌∙◌, ◌+◌, ◌-◌, ◌++◌, drop, slice_get, ap, sym, arith}
-use Rattle.std.specs.Option.{option_map}
-use Rattle.intaglio_lines.specs.Output.{spelling_line}
+use Rattle.intaglio_columns.proofs.Names.{option_map, spelling_line, code_line}
 use Rattle.intaglio_columns.specs.Layout.{codes}
 use Rattle.intaglio_columns.proofs.Overlaid.{read_behind}
-use Rattle.intaglio_columns.specs.RowLines.{code_line}
 use Rattle.intaglio_columns.proofs.Ranged.{after_next}
 use Rattle.intaglio_columns.proofs.rows.add_lines.Goals as goal
 

@@ -1,10 +1,7 @@
 -- The lines of the range so far, and that no row behind its last one was reached.
 use Rattle.std.proofs.Common.{◌≡◌, ◌++◌, ◌-◌, ◌+◌, ◌≤◌, drop, take}
-use Rattle.std.specs.List.{flat_map}
-use Rattle.std.specs.Option.{option_map}
-use Rattle.intaglio_lines.specs.Output.{spelling_line}
+use Rattle.intaglio_columns.proofs.Names.{flat_map, option_map, spelling_line, code_line}
 use Rattle.intaglio_columns.specs.Layout.{codes}
-use Rattle.intaglio_columns.specs.RowLines.{code_line}
 use Rattle.intaglio_columns.proofs.rows.add_lines.Given as goal
 
 abbrev pub invariant-loop-row : goal.invariant-loop-row

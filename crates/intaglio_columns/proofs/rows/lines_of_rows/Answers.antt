@@ -1,5 +1,5 @@
 use Rattle.std.proofs.Common.{arith}
-use Rattle.std.proofs.lemmas.Grind.{common_steps}
+use Rattle.intaglio_columns.proofs.Names.{common_steps}
 use Rattle.std.proofs.lemmas.Result.{err_from_is_err_and}
 use Rattle.intaglio_columns.proofs.Ranged.{fault-of-range, ranges-further}
 use Rattle.intaglio_columns.proofs.rows.lines_of_rows.Goals as goal

@@ -1,10 +1,7 @@
 -- The lines of the ranges so far, which end at rows that are there.
 use Rattle.std.proofs.Common.{◌≡◌, take}
-use Rattle.std.specs.List.{flat_map}
-use Rattle.std.specs.Option.{option_map}
-use Rattle.intaglio_lines.specs.Output.{spelling_line}
+use Rattle.intaglio_columns.proofs.Names.{flat_map, option_map, spelling_line, AreRangesBefore, row_lines}
 use Rattle.intaglio_columns.specs.Layout.{codes}
-use Rattle.intaglio_columns.specs.RowLines.{AreRangesBefore, row_lines}
 use Rattle.intaglio_columns.proofs.rows.lines_of_rows.Given as goal
 
 abbrev pub invariant-loop-range : goal.invariant-loop-range

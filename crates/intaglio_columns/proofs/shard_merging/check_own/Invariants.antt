@@ -1,5 +1,5 @@
 -- The strings of the parts so far belong to the shard.
-use Rattle.intaglio_columns.specs.ShardMerging.{AreOwnBefore}
+use Rattle.intaglio_columns.proofs.Names.{AreOwnBefore}
 use Rattle.intaglio_columns.proofs.shard_merging.check_own.Given as goal
 
 abbrev pub invariant-loop-part : goal.invariant-loop-part

@@ -1,11 +1,7 @@
 -- Strings of parts that all belong to one shard: so do those of the union.
 use Rattle.std.proofs.Common.{◌≡◌, ◌∙◌, ◌==◌, ℕ, zero, suc, Bool, true, false, cond, List, [], ◌∷◌, map, Some, refl, sym, ap, subst}
-use Rattle.std.specs.List.{filter, slice_get}
-use Rattle.std.proofs.lemmas.Bool.{eqb-true, eq-eqb}
-use Rattle.intaglio_frozen.specs.Merging.{union}
-use Rattle.intaglio_frozen.specs.Shards.{BelongTo, shard_of}
+use Rattle.intaglio_columns.proofs.Names.{filter, slice_get, eqb-true, eq-eqb, union, BelongTo, shard_of, AreOwn}
 use Rattle.intaglio_frozen.proofs.Filtered.{filter-union}
-use Rattle.intaglio_columns.specs.ShardMerging.{AreOwn}
 use Rattle.intaglio_columns.proofs.Parts.{passed-on}
 use Rattle.intaglio_columns.proofs.shard_merging.merge_shard.Goals as goal
 

@@ -1,5 +1,5 @@
 use Rattle.std.proofs.Common.{◌∙◌, ap, map}
-use Rattle.intaglio_frozen.specs.SetId.{set_of_shards}
+use Rattle.intaglio_columns.proofs.Names.{set_of_shards}
 use Rattle.intaglio_columns.proofs.Shared.{set-from}
 use Rattle.intaglio_columns.proofs.sharding.set_of.Goals as goal
 

@@ -1,6 +1,6 @@
 -- What the shards so far are.
 use Rattle.std.proofs.Common.{◌≡◌, map, take}
-use Rattle.intaglio_columns.specs.Sharding.{id_of}
+use Rattle.intaglio_columns.proofs.Names.{id_of}
 use Rattle.intaglio_columns.proofs.sharding.set_of.Given as goal
 
 abbrev pub invariant-loop-list : goal.invariant-loop-list

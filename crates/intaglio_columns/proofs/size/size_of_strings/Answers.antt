@@ -1,5 +1,5 @@
 use Rattle.std.proofs.Common.{◌∙◌, ◌+◌, sym, ap, length, max, rules, arith}
-use Rattle.std.specs.Option.{option_copied}
+use Rattle.intaglio_columns.proofs.Names.{option_copied}
 use Rattle.intaglio_columns.proofs.Listed.{fold-next}
 use Rattle.intaglio_columns.proofs.size.size_of_strings.Goals as goal
 

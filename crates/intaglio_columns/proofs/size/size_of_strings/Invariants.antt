@@ -1,6 +1,6 @@
 -- The sizes of the strings so far.
 use Rattle.std.proofs.Common.{◌≡◌, ◌-◌, ◌^◌, length, take, min}
-use Rattle.intaglio_columns.specs.Answers.{longest, total}
+use Rattle.intaglio_columns.proofs.Names.{longest, total}
 use Rattle.intaglio_columns.proofs.size.size_of_strings.Given as goal
 
 abbrev pub invariant-loop-number : goal.invariant-loop-number

@@ -1,6 +1,5 @@
 use Rattle.std.proofs.Common.{[], ap, sym, rules, refl, slice_index_or}
-use Rattle.std.proofs.lemmas.Option.{get_or_from_slice_get, slice_get_read}
-use Rattle.intaglio_lines.specs.Output.{spelling_line}
+use Rattle.intaglio_columns.proofs.Names.{get_or_from_slice_get, slice_get_read, spelling_line}
 use Rattle.intaglio_columns.proofs.Listed.{same-next}
 use Rattle.intaglio_columns.proofs.strings.strings_of.Goals as goal
 

@@ -1,6 +1,5 @@
-use Rattle.std.proofs.lemmas.Grind.{common_steps}
+use Rattle.intaglio_columns.proofs.Names.{common_steps, drop-drop, take_rest}
 use Rattle.std.proofs.Common.{◌-◌, [], ◌∷◌, ap, drop, length, length-drop, take, arith}
-use Rattle.std.proofs.lemmas.List.{drop-drop, take_rest}
 use Rattle.intaglio_columns.proofs.Parts.{on-err, one-part, passed-on}
 use Rattle.intaglio_columns.proofs.Translated.{group-part, next-misfit, next-translated}
 use Rattle.intaglio_columns.proofs.translate.translate_pieces.Goals as goal

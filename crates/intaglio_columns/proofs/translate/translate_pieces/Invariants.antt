@@ -1,6 +1,6 @@
 -- What was translated before these bytes, and of them so far.
 use Rattle.std.proofs.Common.{◌-◌, ◌≤◌, drop, length}
-use Rattle.intaglio_columns.specs.Translation.{GoesOn}
+use Rattle.intaglio_columns.proofs.Names.{GoesOn}
 use Rattle.intaglio_columns.proofs.translate.translate_pieces.Given as goal
 
 abbrev pub invariant-loop-size : goal.invariant-loop-size

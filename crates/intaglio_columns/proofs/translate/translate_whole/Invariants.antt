@@ -1,6 +1,6 @@
 -- What was read so far is translated, but for bytes that may be a part of a piece.
 use Rattle.std.proofs.Common.{◌≡◌}
-use Rattle.intaglio_columns.specs.Translation.{HasTranslated, last_piece}
+use Rattle.intaglio_columns.proofs.Names.{HasTranslated, last_piece}
 use Rattle.intaglio_columns.proofs.translate.translate_whole.Given as goal
 
 abbrev pub invariant-loop : goal.invariant-loop

@@ -1,8 +1,6 @@
 -- The answers of the lines so far were put.
 use Rattle.std.proofs.Common.{take}
-use Rattle.std.specs.List.{flat_map}
-use Rattle.std.specs.Io.KnownBytes.{Appends, append_known}
-use Rattle.intaglio_columns.specs.Answers.{answer_line}
+use Rattle.intaglio_columns.proofs.Names.{flat_map, Appends, append_known, answer_line}
 use Rattle.intaglio_columns.proofs.answer.AnswersOutput.put_all.Given as goal
 
 abbrev pub invariant-loop-found : goal.invariant-loop-found

@@ -1,4 +1,4 @@
-use Rattle.std.proofs.lemmas.Grind.{common_steps}
+use Rattle.intaglio_columns.proofs.Names.{common_steps}
 use Rattle.std.proofs.Common.{◌≡◌, ◌%◌, arith}
 use Rattle.intaglio_columns.proofs.Cut.{codes-count}
 use Rattle.intaglio_columns.proofs.codes.PlainCodes.of.Goals as goal

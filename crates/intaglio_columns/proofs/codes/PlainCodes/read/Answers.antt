@@ -1,4 +1,4 @@
-use Rattle.std.proofs.lemmas.Grind.{common_steps}
+use Rattle.intaglio_columns.proofs.Names.{common_steps}
 use Rattle.std.proofs.Common.{◌+◌, ◌*◌, ◌≤◌, ap, length, arith}
 use Rattle.intaglio_columns.proofs.Cut.{code-at}
 use Rattle.intaglio_columns.proofs.codes.PlainCodes.read.Goals as goal

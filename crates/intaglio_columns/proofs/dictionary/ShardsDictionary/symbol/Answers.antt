@@ -1,4 +1,4 @@
-use Rattle.intaglio_frozen.specs.Shards.{joined}
+use Rattle.intaglio_columns.proofs.Names.{joined}
 use Rattle.intaglio_columns.proofs.Found.{position-string}
 use Rattle.intaglio_columns.proofs.dictionary.ShardsDictionary.symbol.Goals as goal
 

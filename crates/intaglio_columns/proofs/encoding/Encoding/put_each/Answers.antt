@@ -1,14 +1,8 @@
 -- Groups of lines at the front of bytes.
 use Rattle.std.proofs.Common.{◌≡◌, ◌∙◌, sym, ap, refl, subst, ℕ, zero, suc, ◌+◌, ◌-◌, ◌^◌, ◌<◌, min, Bool, true, List, [], ◌∷◌, ◌++◌, length, map, take, drop, drop-cons, get_or, Some, arith}
-use Rattle.std.specs.List.{slice_get}
-use Rattle.std.proofs.lemmas.List.{get_or-map, length-take, take-append-drop}
-use Rattle.std.proofs.lemmas.List.Elements.{All-nil, All-cons, All-append}
-use Rattle.std.proofs.lemmas.Option.{slice_get_within, get_or_from_slice_get}
-use Rattle.intaglio_columns.specs.Translation.{AllFit, ReportsAmong, ReportsPiece, WritesPart}
-use Rattle.intaglio_columns.specs.declared.translate.TranslateError.{TranslateError}
+use Rattle.intaglio_columns.proofs.Names.{slice_get, get_or-map, length-take, take-append-drop, All-nil, All-cons, All-append, slice_get_within, get_or_from_slice_get, AllFit, ReportsAmong, ReportsPiece, WritesPart, TranslateError, encoded_line, has_code}
 use Rattle.intaglio_columns.proofs.Listed.{next, appends-next, front-next}
 use Rattle.intaglio_columns.proofs.Parts.{reports-at, on-err, one-part, part-behind, passed-on}
-use Rattle.intaglio_columns.specs.Columns.{encoded_line, has_code}
 use Rattle.intaglio_columns.proofs.encoding.Encoding.put_each.Goals as goal
 
 module _ (fits : List ℕ → Bool) (xs : List (List ℕ)) (i : ℕ) (x : List ℕ) (at : slice_get xs i ≡ Some x) where

@@ -1,10 +1,6 @@
 -- The codes of the lines so far were put.
 use Rattle.std.proofs.Common.{◌++◌, map, take}
-use Rattle.std.specs.List.{flat_map}
-use Rattle.std.specs.Io.KnownBytes.{Appends, append_known}
-use Rattle.intaglio_lines.specs.Puts.{IsFront}
-use Rattle.intaglio_columns.specs.Columns.{encoded_line, has_code}
-use Rattle.intaglio_columns.specs.Translation.{AllFit}
+use Rattle.intaglio_columns.proofs.Names.{flat_map, Appends, append_known, IsFront, encoded_line, has_code, AllFit}
 use Rattle.intaglio_columns.proofs.encoding.Encoding.put_each.Given as goal
 
 abbrev pub invariant-loop-i : goal.invariant-loop-i

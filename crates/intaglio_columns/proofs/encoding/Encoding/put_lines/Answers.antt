@@ -1,6 +1,5 @@
-use Rattle.std.proofs.lemmas.Grind.{common_steps}
+use Rattle.intaglio_columns.proofs.Names.{common_steps, drop-drop, length-map, take_rest}
 use Rattle.std.proofs.Common.{◌+◌, ◌-◌, ap, drop, length, map, refl, take, arith}
-use Rattle.std.proofs.lemmas.List.{drop-drop, length-map, take_rest}
 use Rattle.intaglio_columns.proofs.Parts.{on-err, passed-on}
 use Rattle.intaglio_columns.proofs.Translated.{group-misfit, group-part, group-translated, kept-part}
 use Rattle.intaglio_columns.proofs.encoding.Encoding.put_lines.Goals as goal

@@ -1,8 +1,6 @@
 -- The codes of the lines so far were put.
 use Rattle.std.proofs.Common.{◌-◌, ◌≤◌, drop, length, take}
-use Rattle.intaglio_lines.specs.Lines.{lines_of}
-use Rattle.intaglio_columns.specs.Columns.{HasNoEnd, encoded_line, has_code}
-use Rattle.intaglio_columns.specs.Translation.{GoesOn}
+use Rattle.intaglio_columns.proofs.Names.{lines_of, HasNoEnd, encoded_line, has_code, GoesOn}
 use Rattle.intaglio_columns.proofs.encoding.Encoding.put_lines.Given as goal
 
 abbrev pub invariant-loop-at : goal.invariant-loop-at

@@ -1,6 +1,6 @@
 use Rattle.std.proofs.Common.{◌∙◌, arith, ap, drop, sym}
-use Rattle.std.specs.Hash.DefaultHasher.{finish, write}
-use Rattle.std.proofs.lemmas.List.{length-take-le, take_rest}
+use Rattle.intaglio_columns.proofs.Names.{finish, length-take-le, take_rest}
+use Rattle.std.specs.Hash.DefaultHasher.{write}
 use Rattle.intaglio_columns.proofs.Checksums.{of_parts}
 use Rattle.intaglio_columns.proofs.file.checksum.checksum_of.Goals as goal
 

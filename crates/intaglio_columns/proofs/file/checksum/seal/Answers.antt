@@ -1,5 +1,5 @@
 use Rattle.std.proofs.Common.{◌∙◌, ◌++◌, drop, take, ap, refl}
-use Rattle.std.specs.Int.{w64, to_le_bytes}
+use Rattle.intaglio_columns.proofs.Names.{w64, to_le_bytes}
 use Rattle.intaglio_columns.proofs.Checksums.{put_at_56}
 use Rattle.intaglio_columns.proofs.file.checksum.seal.Goals as goal
 

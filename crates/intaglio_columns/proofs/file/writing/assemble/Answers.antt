@@ -1,7 +1,5 @@
 use Rattle.std.proofs.Common.{◌∙◌, ◌++◌, ap}
-use Rattle.std.specs.List.{flat_map}
-use Rattle.std.proofs.lemmas.List.{take_at}
-use Rattle.intaglio_columns.specs.Writing.{code_bytes, header_of, sealed}
+use Rattle.intaglio_columns.proofs.Names.{flat_map, take_at, code_bytes, header_of, sealed}
 use Rattle.intaglio_columns.proofs.file.writing.assemble.Goals as goal
 
 pub returns-clause-bytes : goal.returns-clause-bytes

@@ -1,9 +1,5 @@
 use Rattle.std.proofs.Common.{◌∙◌, ◌++◌, take, ap, sym, arith}
-use Rattle.std.specs.List.{flat_map}
-use Rattle.std.proofs.lemmas.Grind.{common_steps}
-use Rattle.std.proofs.lemmas.List.{flat_map_more}
-use Rattle.std.proofs.lemmas.Option.{slice_get_within}
-use Rattle.intaglio_columns.specs.Writing.{code_bytes}
+use Rattle.intaglio_columns.proofs.Names.{flat_map, common_steps, flat_map_more, slice_get_within, code_bytes}
 use Rattle.intaglio_columns.proofs.Listed.{next}
 use Rattle.intaglio_columns.proofs.file.writing.put_codes.Goals as goal
 

@@ -1,8 +1,6 @@
 -- The codes so far were added, and are symbols or missing.
 use Rattle.std.proofs.Common.{◌≡◌, ◌++◌, take}
-use Rattle.std.specs.List.{flat_map}
-use Rattle.intaglio_columns.specs.Codes.{AreCodesBefore}
-use Rattle.intaglio_columns.specs.Writing.{code_bytes}
+use Rattle.intaglio_columns.proofs.Names.{flat_map, AreCodesBefore, code_bytes}
 use Rattle.intaglio_columns.proofs.file.writing.put_codes.Given as goal
 
 abbrev pub invariant-loop-row : goal.invariant-loop-row

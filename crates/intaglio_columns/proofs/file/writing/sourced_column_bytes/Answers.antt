@@ -1,8 +1,6 @@
 use Rattle.std.proofs.Common.{◌∙◌, ap, subst}
-use Rattle.intaglio_columns.specs.Writing.{file_of}
-use Rattle.intaglio_columns.specs.IsColumn.{IsHeaderOf}
+use Rattle.intaglio_columns.proofs.Names.{file_of, IsHeaderOf, RowSource}
 use Rattle.intaglio_columns.proofs.Written.{file_is}
-use Rattle.intaglio_columns.specs.declared.file.source.RowSource.{RowSource}
 use Rattle.intaglio_columns.proofs.file.writing.sourced_column_bytes.Goals as goal
 
 pub check_full-requires : goal.check_full-requires

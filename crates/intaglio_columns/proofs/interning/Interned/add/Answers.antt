@@ -1,9 +1,5 @@
-use Rattle.std.proofs.lemmas.Grind.{common_steps}
+use Rattle.intaglio_columns.proofs.Names.{common_steps, map-id, issue_from, lines_of, Allows}
 use Rattle.std.proofs.Common.{◌≡◌, ◌^◌, ◌+◌, ◌-◌, ◌++◌, [], ◌∷◌, true, min, length, length-append, ap, Err, arith, rules}
-use Rattle.std.proofs.lemmas.List.{map-id}
-use Rattle.intaglio_interner.specs.Issue.{issue_from}
-use Rattle.intaglio_lines.specs.Lines.{lines_of}
-use Rattle.intaglio_columns.specs.Frozen.{Allows}
 use Rattle.intaglio_columns.proofs.Interned.{issue-length, lines-interned, not-allowed, too-many}
 use Rattle.intaglio_columns.proofs.interning.Interned.add.Goals as goal
 

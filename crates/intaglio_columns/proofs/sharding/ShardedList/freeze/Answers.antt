@@ -1,7 +1,6 @@
-use Rattle.std.proofs.lemmas.Grind.{common_steps}
+use Rattle.intaglio_columns.proofs.Names.{common_steps, strings_in}
 use Rattle.std.proofs.Common.{◌≡◌, ◌∙◌, [], map, IfErr, subst, arith}
 use Rattle.intaglio_frozen.specs.Freezing.{IsRefusal as IsTableRefusal}
-use Rattle.intaglio_columns.specs.Sharding.{strings_in}
 use Rattle.intaglio_columns.proofs.sharding.ShardedList.freeze.Goals as goal
 
 pub returns-clause-err : goal.returns-clause-err

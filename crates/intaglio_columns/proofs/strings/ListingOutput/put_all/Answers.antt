@@ -1,6 +1,5 @@
 use Rattle.std.proofs.Common.{◌∙◌, sym, ap, refl}
-use Rattle.std.specs.Option.{option_copied}
-use Rattle.intaglio_lines.specs.Output.{spelling_line}
+use Rattle.intaglio_columns.proofs.Names.{option_copied, spelling_line}
 use Rattle.intaglio_columns.proofs.Listed.{appends-next}
 use Rattle.intaglio_columns.proofs.strings.ListingOutput.put_all.Goals as goal
 

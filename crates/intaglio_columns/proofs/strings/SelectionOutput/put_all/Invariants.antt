@@ -1,8 +1,6 @@
 -- The strings so far were put.
 use Rattle.std.proofs.Common.{take}
-use Rattle.std.specs.List.{flat_map}
-use Rattle.std.specs.Io.KnownBytes.{Appends, append_known}
-use Rattle.intaglio_lines.specs.Output.{spelling_line}
+use Rattle.intaglio_columns.proofs.Names.{flat_map, Appends, append_known, spelling_line}
 use Rattle.intaglio_columns.proofs.strings.SelectionOutput.put_all.Given as goal
 
 abbrev pub invariant-loop-string : goal.invariant-loop-string

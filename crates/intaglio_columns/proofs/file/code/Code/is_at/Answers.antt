@@ -1,5 +1,5 @@
 -- Two codes of a width are equal exactly if they are once widened.
-use Rattle.std.proofs.lemmas.Grind.{common_steps}
+use Rattle.intaglio_columns.proofs.Names.{common_steps}
 use Rattle.std.proofs.Common.{◌∙◌, ◌==◌, arith}
 use Rattle.intaglio_columns.proofs.CodesInFile.{code_is, same_widened}
 use Rattle.intaglio_columns.proofs.file.code.Code.is_at.Goals as goal

@@ -1,7 +1,6 @@
 -- What isn't below the number of strings is unknown, unless it is the greatest code.
-use Rattle.std.proofs.lemmas.Grind.{common_steps}
+use Rattle.intaglio_columns.proofs.Names.{common_steps, is_unknown}
 use Rattle.std.proofs.Common.{◌∙◌, arith}
-use Rattle.intaglio_columns.specs.Codes.{is_unknown}
 use Rattle.intaglio_columns.proofs.CodesInFile.{code_is, unknown_above, unknown_below}
 use Rattle.intaglio_columns.proofs.file.code.Code.is_unknown.Goals as goal
 

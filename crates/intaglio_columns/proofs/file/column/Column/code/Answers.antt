@@ -1,6 +1,5 @@
-use Rattle.std.proofs.lemmas.Grind.{common_steps}
+use Rattle.intaglio_columns.proofs.Names.{common_steps, slice_get_past}
 use Rattle.std.proofs.Common.{arith}
-use Rattle.std.proofs.lemmas.Option.{slice_get_past}
 use Rattle.intaglio_columns.proofs.CodesInFile.{all_length}
 use Rattle.intaglio_columns.proofs.file.column.Column.code.Goals as goal
 

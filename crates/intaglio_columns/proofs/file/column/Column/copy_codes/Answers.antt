@@ -1,4 +1,4 @@
-use Rattle.std.proofs.lemmas.Grind.{common_steps}
+use Rattle.intaglio_columns.proofs.Names.{common_steps}
 use Rattle.std.proofs.Common.{◌∙◌, arith, length-drop}
 use Rattle.intaglio_columns.proofs.Overlaid.{overlaid_all, overlaid_next, read_behind}
 use Rattle.intaglio_columns.proofs.file.column.Column.copy_codes.Goals as goal

@@ -1,7 +1,7 @@
 -- The codes so far, over the first places.
 use Rattle.std.proofs.Common.{◌≡◌, drop, take}
 use Rattle.intaglio_columns.specs.Layout.{codes}
-use Rattle.intaglio_columns.specs.Rows.{overlaid}
+use Rattle.intaglio_columns.proofs.Names.{overlaid}
 use Rattle.intaglio_columns.proofs.file.column.Column.copy_codes.Given as goal
 
 abbrev pub invariant-loop-i : goal.invariant-loop-i

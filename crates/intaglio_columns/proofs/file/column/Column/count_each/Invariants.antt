@@ -1,5 +1,6 @@
 -- The counts of the codes so far.
-use Rattle.intaglio_columns.specs.Layout.{codes, strings}
+use Rattle.intaglio_columns.proofs.Names.{strings}
+use Rattle.intaglio_columns.specs.Layout.{codes}
 use Rattle.intaglio_columns.proofs.Counted.{IsTally}
 use Rattle.intaglio_columns.proofs.file.column.Column.count_each.Given as goal
 

@@ -1,4 +1,4 @@
-use Rattle.std.proofs.lemmas.Grind.{common_steps}
+use Rattle.intaglio_columns.proofs.Names.{common_steps}
 use Rattle.std.proofs.Common.{arith}
 use Rattle.intaglio_columns.proofs.Past.{past_end, rows_count}
 use Rattle.intaglio_columns.proofs.file.column.Column.count_passing.Goals as goal

@@ -1,7 +1,7 @@
 -- No row so far passes.
 use Rattle.std.proofs.Common.{◌≡◌, ◌≤◌}
 use Rattle.intaglio_columns.specs.Layout.{codes}
-use Rattle.intaglio_columns.specs.Rows.{rows_past}
+use Rattle.intaglio_columns.proofs.Names.{rows_past}
 use Rattle.intaglio_columns.proofs.file.column.Column.first_among.Given as goal
 
 abbrev pub invariant-loop-row : goal.invariant-loop-row

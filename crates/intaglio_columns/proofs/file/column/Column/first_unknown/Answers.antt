@@ -1,5 +1,6 @@
 use Rattle.std.proofs.Common.{◌≡◌, ◌∙◌}
-use Rattle.intaglio_columns.specs.Layout.{codes, strings}
+use Rattle.intaglio_columns.proofs.Names.{strings}
+use Rattle.intaglio_columns.specs.Layout.{codes}
 use Rattle.intaglio_columns.proofs.Unknown.{first_of_unknown}
 use Rattle.intaglio_columns.proofs.file.column.Column.first_unknown.Goals as goal
 

@@ -1,6 +1,6 @@
 use Rattle.std.proofs.Common.{◌∙◌, ℕ, ◌+◌, ◌==◌, ◌++◌, ap}
 use Rattle.intaglio_columns.specs.Layout.{codes}
-use Rattle.intaglio_columns.specs.Rows.{rows_of, rows_past}
+use Rattle.intaglio_columns.proofs.Names.{rows_of, rows_past}
 use Rattle.intaglio_columns.proofs.Past.{more_rows_of}
 use Rattle.intaglio_columns.proofs.file.column.Column.rows_of.Goals as goal
 

@@ -1,7 +1,7 @@
 -- The rows so far, and those from the next one on.
 use Rattle.std.proofs.Common.{◌≡◌, ◌-◌, ◌==◌, ◌++◌, length}
 use Rattle.intaglio_columns.specs.Layout.{codes}
-use Rattle.intaglio_columns.specs.Rows.{rows_of, rows_past}
+use Rattle.intaglio_columns.proofs.Names.{rows_of, rows_past}
 use Rattle.intaglio_columns.proofs.file.column.Column.rows_of.Given as goal
 
 abbrev pub invariant-loop-row : goal.invariant-loop-row

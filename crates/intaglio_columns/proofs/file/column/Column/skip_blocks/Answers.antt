@@ -1,4 +1,4 @@
-use Rattle.std.proofs.lemmas.Grind.{common_steps}
+use Rattle.intaglio_columns.proofs.Names.{common_steps}
 use Rattle.std.proofs.Common.{arith}
 use Rattle.intaglio_columns.proofs.CodesInFile.{all_length}
 use Rattle.intaglio_columns.proofs.file.column.Column.skip_blocks.Goals as goal

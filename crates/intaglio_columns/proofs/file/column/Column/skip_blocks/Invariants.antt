@@ -1,7 +1,7 @@
 -- No row so far passes.
 use Rattle.std.proofs.Common.{◌≡◌, ◌≤◌, ◌-◌, length}
 use Rattle.intaglio_columns.specs.Layout.{codes}
-use Rattle.intaglio_columns.specs.Rows.{rows_past}
+use Rattle.intaglio_columns.proofs.Names.{rows_past}
 use Rattle.intaglio_columns.proofs.file.column.Column.skip_blocks.Given as goal
 
 abbrev pub invariant-loop-row : goal.invariant-loop-row
