@@ -4,7 +4,10 @@ use crate::fault::{Fault, Told, tell};
 use crate::results::{are_found, are_numbered, c_string, is_place, is_refused, opens};
 use crate::runs::{Calls, Run};
 use crate::words::{COUNT, forms_of, spelling};
-use intaglio::{BaseInterner, LookedUpIn, Reply, RoomError, SpelledStore, TableError, TableOver};
+use intaglio::{
+    BaseInterner, Content, LookedUpIn, Reply, RoomError, SoughtIn, SpelledStore, TableError,
+    TableOver,
+};
 use std::alloc::{AllocError, Global};
 use std::marker::PhantomData;
 use tests::support::builders::{Counted, HasherCount};
@@ -50,9 +53,14 @@ impl<F: OfEnded, C: TestContent> Given<F, C> {
 
 /// A table with its list, and what was printed so far.
 #[derive(Drop)]
-pub struct Course<'q, L: TestStore + LookedUpIn<'q>, S: HasherCount> {
+pub struct Course<'q, L: TestStore + LookedUpIn<'q>, S: HasherCount>
+where
+    L::Content: Content + SoughtIn<L> + Drop,
+    L::Prepared: Drop,
+    TableOver<L, S>: TestTable,
+{
     table: TableOver<L, S>,
-    given: Given<L::By, L::Item>,
+    given: Given<L::By, <TableOver<L, S> as TestTable>::Item>,
     lifetime: PhantomData<&'q ()>,
     by_run: bool,
     // how many words the table holds
@@ -65,10 +73,15 @@ pub struct Course<'q, L: TestStore + LookedUpIn<'q>, S: HasherCount> {
 
 /// Makes a run on a new table, and returns the table. Requests for memory before the first printed call
 /// aren't the table's.
-pub fn left_by<'q, L: TestStore + LookedUpIn<'q, By: OfEnded>>(
+pub fn left_by<'q, L: TestStore + SpelledStore + LookedUpIn<'q, By: OfEnded>>(
     rt: &impl Told,
     run: Run<'_>,
-) -> Result<TableOver<L, L::Hasher>, Fault> {
+) -> Result<TableOver<L, L::Hasher>, Fault>
+where
+    L::Content: Content + SoughtIn<L> + Drop,
+    L::Prepared: Drop,
+    TableOver<L, L::Hasher>: TestTable,
+{
     let given = Given::make(rt.alloc(), run.3)?;
     tell(rt, "table", 0);
     let made = L::make(rt.alloc(), run.1);
@@ -76,21 +89,31 @@ pub fn left_by<'q, L: TestStore + LookedUpIn<'q, By: OfEnded>>(
 }
 
 /// Makes a run under equal hashes.
-pub fn watch_equal<'q, L: TestStore + LookedUpIn<'q, By: OfEnded>>(
+pub fn watch_equal<'q, L: TestStore + SpelledStore + LookedUpIn<'q, By: OfEnded>>(
     rt: &impl Told,
     run: Run<'_>,
-) -> Result<(), Fault> {
+) -> Result<(), Fault>
+where
+    L::Content: Content + SoughtIn<L> + Drop,
+    L::Prepared: Drop,
+    TableOver<L, Counted>: TestTable,
+{
     let given = Given::make(rt.alloc(), run.3)?;
     tell(rt, "table", 0);
-    let made = TableOver::<L, _>::with_hasher(rt.alloc(), Counted::new(Some(7)));
+    let made = TableOver::with_hasher(rt.alloc(), Counted::new(Some(7)));
     let _table = Course::new(made, given, run.2)?.play(rt, run.3)?;
     Ok(())
 }
 
-impl<'q, L: TestStore + LookedUpIn<'q, By: OfEnded>, S: HasherCount> Course<'q, L, S> {
+impl<'q, L: TestStore + SpelledStore + LookedUpIn<'q, By: OfEnded>, S: HasherCount> Course<'q, L, S>
+where
+    L::Content: Content + SoughtIn<L> + Drop,
+    L::Prepared: Drop,
+    TableOver<L, S>: TestTable,
+{
     fn new(
         made: Result<TableOver<L, S>, RoomError>,
-        given: Given<L::By, L::Item>,
+        given: Given<L::By, <TableOver<L, S> as TestTable>::Item>,
         by_run: bool,
     ) -> Result<Course<'q, L, S>, Fault> {
         Ok(Course {
@@ -153,7 +176,7 @@ impl<'q, L: TestStore + LookedUpIn<'q, By: OfEnded>, S: HasherCount> Course<'q, 
         rt: &impl Told,
         ask: Ask,
         turn: usize,
-        contents: Option<Vec<L::Item>>,
+        contents: Option<Vec<<TableOver<L, S> as TestTable>::Item>>,
     ) -> Result<bool, TableError> {
         self.calls = self.calls.saturating_add(1);
         self.fault = Fault::Answer(self.calls);
@@ -187,7 +210,7 @@ impl<'q, L: TestStore + LookedUpIn<'q, By: OfEnded>, S: HasherCount> Course<'q, 
         alloc: Global,
         ask: Ask,
         turn: usize,
-        contents: Option<Vec<L::Item>>,
+        contents: Option<Vec<<TableOver<L, S> as TestTable>::Item>>,
     ) -> Result<bool, TableError> {
         let mut calls = Vec::with_capacity(alloc, 1)?;
         let Some(call) = ask.call(contents.and_then(|mut one| one.pop())) else {
@@ -211,10 +234,10 @@ impl<'q, L: TestStore + LookedUpIn<'q, By: OfEnded>, S: HasherCount> Course<'q, 
         &mut self,
         alloc: Global,
         ask: Ask,
-        contents: Option<Vec<L::Item>>,
+        contents: Option<Vec<<TableOver<L, S> as TestTable>::Item>>,
     ) -> Result<bool, TableError> {
         if let Some(contents) = contents {
-            return self.took(ask, contents);
+            return self.took(alloc, ask, contents);
         }
         match ask {
             Ask::Make(how, capacity) => {
@@ -234,16 +257,21 @@ impl<'q, L: TestStore + LookedUpIn<'q, By: OfEnded>, S: HasherCount> Course<'q, 
                 Reply::NoMemory => Err(TableError::from(AllocError)),
                 reply => Ok(reply == Reply::Done),
             },
-            Ask::Freeze => opens(L::freeze(alloc, &self.table), self.held),
+            Ask::Freeze => opens(self.table.freeze(alloc), self.held),
             Ask::CString => c_string(alloc),
             _ => self.took_forms(alloc, ask),
         }
     }
 
     // The same of a call that takes contents.
-    fn took(&mut self, ask: Ask, mut contents: Vec<L::Item>) -> Result<bool, TableError> {
+    fn took(
+        &mut self,
+        alloc: Global,
+        ask: Ask,
+        mut contents: Vec<<TableOver<L, S> as TestTable>::Item>,
+    ) -> Result<bool, TableError> {
         if let Ask::InternAll(count) = ask {
-            let symbols = self.table.put_all(contents)?;
+            let symbols = self.table.put_all(alloc, contents)?;
             return Ok(are_numbered(&symbols, count));
         }
         let wanted = match ask {

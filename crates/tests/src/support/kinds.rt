@@ -85,9 +85,13 @@ impl OfSpelling for CString {
 }
 
 /// A kind whose strings can be made from any spelling.
-pub trait TestKind: KindOwned<Static: OfEnded, Owned: OfSpelling> {}
+pub trait TestKind: KindOwned {
+    /// An owned content of this spelling.
+    fn owned(alloc: Global, spelling: &[u8]) -> Option<ContentOf<Self>>;
 
-impl<K: KindOwned<Static: OfEnded, Owned: OfSpelling>> TestKind for K {}
+    /// A borrowed content of this text, behind which a zero byte stands.
+    fn borrowed(ended: &'static str) -> Option<ContentOf<Self>>;
+}
 
 /// A content of such a kind.
 pub trait TestContent: Drop {
@@ -99,6 +103,16 @@ pub trait TestContent: Drop {
 }
 
 impl<K: TestKind> TestContent for ContentOf<K> {
+    fn owned(alloc: Global, spelling: &[u8]) -> Option<ContentOf<K>> {
+        K::owned(alloc, spelling)
+    }
+
+    fn borrowed(ended: &'static str) -> Option<ContentOf<K>> {
+        K::borrowed(ended)
+    }
+}
+
+impl<K: KindOwned<Static: OfEnded, Owned: OfSpelling>> TestKind for K {
     fn owned(alloc: Global, spelling: &[u8]) -> Option<ContentOf<K>> {
         Some(ContentOf::Owned(OfSpelling::of_spelling(alloc, spelling)?))
     }

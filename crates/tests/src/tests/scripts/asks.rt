@@ -1,14 +1,13 @@
 //! Calls of a table by borrowed forms, and what borrows from it, whose results are text.
-use super::printed::{Shown, found_text, inserted_text, reply_text, spelled, symbols_text};
+use super::printed::{Shown, inserted_text, numbered, reply_text, spelled, symbols_text, word};
 use super::steps::walked;
-use super::table::Table;
 use crate::support::builders::HasherCount;
 use crate::support::kinds::{BStrKind, BytesKind, CStrKind, Host, OsStrKind, PathKind, StrKind};
 use crate::support::replies::interned;
-use crate::support::tables::TestStore;
 use intaglio::packed::Packed;
 use intaglio::{
-    ContentOf, KindForm, Lends, LookedUpIn, Reply, Symbol, TableOver, Work, get_or_intern_all,
+    Content, ContentOf, Indexed, KindForm, KindOwned, Lends, LookedUpIn, Reply, SoughtIn, Symbol,
+    Table, TableOver, Work, get_or_intern_all,
 };
 
 /// A call by borrowed forms, or one that borrows what is stored.
@@ -35,133 +34,285 @@ pub enum Ask {
     /// `get`.
     Get(Symbol),
     /// Steps on the iterator of forms.
-    Forms(&'static str),
+    Forms,
     /// Steps on `iter`.
-    Pairs(&'static str),
+    Pairs,
     /// Steps on the iterator of the table itself.
-    Each(&'static str),
+    Each,
 }
 
 /// The table of owned contents of a kind.
-pub type OwnedTable<K, S> = intaglio::Table<ContentOf<K>, S>;
+pub type OwnedTable<K, S> = Table<ContentOf<K>, S>;
 
 /// The table of a kind in one buffer.
 pub type PackedTable<K, S> = TableOver<Packed<K>, S>;
 
-// The prover takes seconds wherever a table of one kind is passed to a call of any table, which is done only
-// here.
-impl<S: HasherCount> Table for OwnedTable<StrKind, S> {
-    fn ask<R: Host>(&mut self, rt: &R, contents: &[ContentOf<StrKind>], ask: Ask) -> String {
+/// A kind whose tables are asked. Its impls, and those of [`PackedKind`], alone name tables of one kind,
+/// since the prover takes seconds wherever one of them is passed to a call of any table.
+pub trait OwnedKind: KindOwned {
+    /// Whether contents are compared as paths.
+    const ARE_PATHS: bool;
+
+    /// Makes the call, and returns its result as text.
+    fn ask_owned<R: Host, S: HasherCount>(
+        rt: &R,
+        table: &mut OwnedTable<Self, S>,
+        contents: &[ContentOf<Self>],
+        steps: &str,
+        ask: Ask,
+    ) -> String;
+}
+
+/// The same of tables in one buffer.
+pub trait PackedKind: KindOwned {
+    /// Makes the call, and returns its result as text.
+    fn ask_packed<R: Host, S: HasherCount>(
+        rt: &R,
+        table: &mut PackedTable<Self, S>,
+        contents: &[ContentOf<Self>],
+        steps: &str,
+        ask: Ask,
+    ) -> String;
+}
+
+impl OwnedKind for StrKind {
+    const ARE_PATHS: bool = false;
+
+    fn ask_owned<R: Host, S: HasherCount>(
+        rt: &R,
+        table: &mut OwnedTable<StrKind, S>,
+        contents: &[ContentOf<StrKind>],
+        steps: &str,
+        ask: Ask,
+    ) -> String {
         match ask {
-            Ask::Forms(steps) => walked(rt, self.strings(), steps),
-            _ => answer(rt, self, contents, ask),
+            Ask::Forms => walked(rt, table.strings(), steps),
+            Ask::GetInterned => match table.get_interned(first(rt, contents).form()) {
+                None => word(rt, "none"),
+                Some((symbol, form)) => numbered(rt, symbol, form.shown()),
+            },
+            _ => answer(rt, table, contents, steps, ask),
         }
     }
 }
 
-impl<S: HasherCount> Table for OwnedTable<OsStrKind, S> {
-    fn ask<R: Host>(&mut self, rt: &R, contents: &[ContentOf<OsStrKind>], ask: Ask) -> String {
+impl OwnedKind for OsStrKind {
+    const ARE_PATHS: bool = false;
+
+    fn ask_owned<R: Host, S: HasherCount>(
+        rt: &R,
+        table: &mut OwnedTable<OsStrKind, S>,
+        contents: &[ContentOf<OsStrKind>],
+        steps: &str,
+        ask: Ask,
+    ) -> String {
         match ask {
-            Ask::Forms(steps) => walked(rt, self.os_strings(), steps),
-            _ => answer(rt, self, contents, ask),
+            Ask::Forms => walked(rt, table.os_strings(), steps),
+            Ask::GetInterned => match table.get_interned(first(rt, contents).form()) {
+                None => word(rt, "none"),
+                Some((symbol, form)) => numbered(rt, symbol, form.shown()),
+            },
+            _ => answer(rt, table, contents, steps, ask),
         }
     }
 }
 
-impl<S: HasherCount> Table for OwnedTable<BytesKind, S> {
-    fn ask<R: Host>(&mut self, rt: &R, contents: &[ContentOf<BytesKind>], ask: Ask) -> String {
+impl OwnedKind for BytesKind {
+    const ARE_PATHS: bool = false;
+
+    fn ask_owned<R: Host, S: HasherCount>(
+        rt: &R,
+        table: &mut OwnedTable<BytesKind, S>,
+        contents: &[ContentOf<BytesKind>],
+        steps: &str,
+        ask: Ask,
+    ) -> String {
         match ask {
-            Ask::Forms(steps) => walked(rt, self.bytestrings(), steps),
-            _ => answer(rt, self, contents, ask),
+            Ask::Forms => walked(rt, table.bytestrings(), steps),
+            Ask::GetInterned => match table.get_interned(first(rt, contents).form()) {
+                None => word(rt, "none"),
+                Some((symbol, form)) => numbered(rt, symbol, form.shown()),
+            },
+            _ => answer(rt, table, contents, steps, ask),
         }
     }
 }
 
-impl<S: HasherCount> Table for OwnedTable<BStrKind, S> {
-    fn ask<R: Host>(&mut self, rt: &R, contents: &[ContentOf<BStrKind>], ask: Ask) -> String {
+impl OwnedKind for BStrKind {
+    const ARE_PATHS: bool = false;
+
+    fn ask_owned<R: Host, S: HasherCount>(
+        rt: &R,
+        table: &mut OwnedTable<BStrKind, S>,
+        contents: &[ContentOf<BStrKind>],
+        steps: &str,
+        ask: Ask,
+    ) -> String {
         match ask {
-            Ask::Forms(steps) => walked(rt, self.bstrings(), steps),
-            _ => answer(rt, self, contents, ask),
+            Ask::Forms => walked(rt, table.bstrings(), steps),
+            Ask::GetInterned => match table.get_interned(first(rt, contents).form()) {
+                None => word(rt, "none"),
+                Some((symbol, form)) => numbered(rt, symbol, form.shown()),
+            },
+            _ => answer(rt, table, contents, steps, ask),
         }
     }
 }
 
-impl<S: HasherCount> Table for OwnedTable<CStrKind, S> {
-    fn ask<R: Host>(&mut self, rt: &R, contents: &[ContentOf<CStrKind>], ask: Ask) -> String {
+impl OwnedKind for CStrKind {
+    const ARE_PATHS: bool = false;
+
+    fn ask_owned<R: Host, S: HasherCount>(
+        rt: &R,
+        table: &mut OwnedTable<CStrKind, S>,
+        contents: &[ContentOf<CStrKind>],
+        steps: &str,
+        ask: Ask,
+    ) -> String {
         match ask {
-            Ask::Forms(steps) => walked(rt, self.c_strings(), steps),
-            _ => answer(rt, self, contents, ask),
+            Ask::Forms => walked(rt, table.c_strings(), steps),
+            Ask::GetInterned => match table.get_interned(first(rt, contents).form()) {
+                None => word(rt, "none"),
+                Some((symbol, form)) => numbered(rt, symbol, form.shown()),
+            },
+            _ => answer(rt, table, contents, steps, ask),
         }
     }
 }
 
-impl<S: HasherCount> Table for OwnedTable<PathKind, S> {
+impl OwnedKind for PathKind {
     const ARE_PATHS: bool = true;
 
-    fn ask<R: Host>(&mut self, rt: &R, contents: &[ContentOf<PathKind>], ask: Ask) -> String {
+    fn ask_owned<R: Host, S: HasherCount>(
+        rt: &R,
+        table: &mut OwnedTable<PathKind, S>,
+        contents: &[ContentOf<PathKind>],
+        steps: &str,
+        ask: Ask,
+    ) -> String {
         match ask {
-            Ask::Forms(steps) => walked(rt, self.paths(), steps),
-            _ => answer(rt, self, contents, ask),
+            Ask::Forms => walked(rt, table.paths(), steps),
+            Ask::GetInterned => match table.get_interned(first(rt, contents).form()) {
+                None => word(rt, "none"),
+                Some((symbol, form)) => numbered(rt, symbol, form.shown()),
+            },
+            _ => answer(rt, table, contents, steps, ask),
         }
     }
 }
 
-impl<S: HasherCount> Table for PackedTable<StrKind, S> {
-    fn ask<R: Host>(&mut self, rt: &R, contents: &[ContentOf<StrKind>], ask: Ask) -> String {
+impl PackedKind for StrKind {
+    fn ask_packed<R: Host, S: HasherCount>(
+        rt: &R,
+        table: &mut PackedTable<StrKind, S>,
+        contents: &[ContentOf<StrKind>],
+        steps: &str,
+        ask: Ask,
+    ) -> String {
         match ask {
-            Ask::Forms(steps) => walked(rt, self.strings(), steps),
-            _ => answer(rt, self, contents, ask),
+            Ask::Forms => walked(rt, table.strings(), steps),
+            Ask::GetInterned => match table.get_interned(first(rt, contents).form()) {
+                None => word(rt, "none"),
+                Some((symbol, form)) => numbered(rt, symbol, form.shown()),
+            },
+            _ => answer(rt, table, contents, steps, ask),
         }
     }
 }
 
-impl<S: HasherCount> Table for PackedTable<OsStrKind, S> {
-    fn ask<R: Host>(&mut self, rt: &R, contents: &[ContentOf<OsStrKind>], ask: Ask) -> String {
+impl PackedKind for OsStrKind {
+    fn ask_packed<R: Host, S: HasherCount>(
+        rt: &R,
+        table: &mut PackedTable<OsStrKind, S>,
+        contents: &[ContentOf<OsStrKind>],
+        steps: &str,
+        ask: Ask,
+    ) -> String {
         match ask {
-            Ask::Forms(steps) => walked(rt, self.os_strings(), steps),
-            _ => answer(rt, self, contents, ask),
+            Ask::Forms => walked(rt, table.os_strings(), steps),
+            Ask::GetInterned => match table.get_interned(first(rt, contents).form()) {
+                None => word(rt, "none"),
+                Some((symbol, form)) => numbered(rt, symbol, form.shown()),
+            },
+            _ => answer(rt, table, contents, steps, ask),
         }
     }
 }
 
-impl<S: HasherCount> Table for PackedTable<BytesKind, S> {
-    fn ask<R: Host>(&mut self, rt: &R, contents: &[ContentOf<BytesKind>], ask: Ask) -> String {
+impl PackedKind for BytesKind {
+    fn ask_packed<R: Host, S: HasherCount>(
+        rt: &R,
+        table: &mut PackedTable<BytesKind, S>,
+        contents: &[ContentOf<BytesKind>],
+        steps: &str,
+        ask: Ask,
+    ) -> String {
         match ask {
-            Ask::Forms(steps) => walked(rt, self.bytestrings(), steps),
-            _ => answer(rt, self, contents, ask),
+            Ask::Forms => walked(rt, table.bytestrings(), steps),
+            Ask::GetInterned => match table.get_interned(first(rt, contents).form()) {
+                None => word(rt, "none"),
+                Some((symbol, form)) => numbered(rt, symbol, form.shown()),
+            },
+            _ => answer(rt, table, contents, steps, ask),
         }
     }
 }
 
-impl<S: HasherCount> Table for PackedTable<BStrKind, S> {
-    fn ask<R: Host>(&mut self, rt: &R, contents: &[ContentOf<BStrKind>], ask: Ask) -> String {
+impl PackedKind for BStrKind {
+    fn ask_packed<R: Host, S: HasherCount>(
+        rt: &R,
+        table: &mut PackedTable<BStrKind, S>,
+        contents: &[ContentOf<BStrKind>],
+        steps: &str,
+        ask: Ask,
+    ) -> String {
         match ask {
-            Ask::Forms(steps) => walked(rt, self.bstrings(), steps),
-            _ => answer(rt, self, contents, ask),
+            Ask::Forms => walked(rt, table.bstrings(), steps),
+            Ask::GetInterned => match table.get_interned(first(rt, contents).form()) {
+                None => word(rt, "none"),
+                Some((symbol, form)) => numbered(rt, symbol, form.shown()),
+            },
+            _ => answer(rt, table, contents, steps, ask),
         }
     }
 }
 
-impl<S: HasherCount> Table for PackedTable<PathKind, S> {
-    const ARE_PATHS: bool = true;
-
-    fn ask<R: Host>(&mut self, rt: &R, contents: &[ContentOf<PathKind>], ask: Ask) -> String {
+impl PackedKind for PathKind {
+    fn ask_packed<R: Host, S: HasherCount>(
+        rt: &R,
+        table: &mut PackedTable<PathKind, S>,
+        contents: &[ContentOf<PathKind>],
+        steps: &str,
+        ask: Ask,
+    ) -> String {
         match ask {
-            Ask::Forms(steps) => walked(rt, self.paths(), steps),
-            _ => answer(rt, self, contents, ask),
+            Ask::Forms => walked(rt, table.paths(), steps),
+            Ask::GetInterned => match table.get_interned(first(rt, contents).form()) {
+                None => word(rt, "none"),
+                Some((symbol, form)) => numbered(rt, symbol, form.shown()),
+            },
+            _ => answer(rt, table, contents, steps, ask),
         }
     }
+}
+
+fn first<'a, C>(rt: &impl Host, contents: &'a [C]) -> &'a C {
+    contents.first().expect(rt, "no content")
 }
 
 // What any table returns for a call by the forms of these.
-fn answer<'a, L: TestStore + Lends<'a, Form: Shown> + LookedUpIn<'a>, K, S: HasherCount>(
+fn answer<'a, L: Lends<'a> + LookedUpIn<'a> + Indexed, K, S: HasherCount>(
     rt: &impl Host,
     table: &'a mut TableOver<L, S>,
     contents: &'a [ContentOf<K>],
+    steps: &str,
     ask: Ask,
 ) -> String
 where
     K: KindForm<'a, Form = <L as LookedUpIn<'a>>::By>,
+    L::Content: Content + SoughtIn<L> + Drop,
+    L::Prepared: Drop,
+    L::Form: Shown,
 {
     let mut forms = Vec::new(rt.alloc());
     for content in contents {
@@ -174,11 +325,8 @@ where
             symbols_text(rt, symbols)
         }
         Ask::CheckAll => checked_text(rt, &table.check_all(&forms).expect(rt, "memory")),
-        Ask::Pairs(steps) => walked(rt, table.iter(), steps),
-        Ask::Each(steps) => walked(rt, (&*table).into_iter(), steps),
-        Ask::GetInterned => {
-            found_text(rt, table.get_interned(forms.pop().expect(rt, "no form")))
-        }
+        Ask::Pairs => walked(rt, table.iter(), steps),
+        Ask::Each => walked(rt, (&*table).into_iter(), steps),
         Ask::InsertFull => inserted_text(rt, table.insert_full(forms.pop().expect(rt, "no form"))),
         _ => reply_text(
             rt,
@@ -192,12 +340,17 @@ fn checked_text(rt: &impl Host, symbols: &[Option<Symbol>]) -> String {
 }
 
 // The same for all other calls, which take at most one form.
-fn reply<'a, L: TestStore + Lends<'a, Form: Shown> + LookedUpIn<'a>, S: HasherCount>(
+fn reply<'a, L: Lends<'a> + LookedUpIn<'a> + Indexed, S: HasherCount>(
     rt: &impl Host,
     table: &'a mut TableOver<L, S>,
     form: <L as LookedUpIn<'a>>::By,
     ask: Ask,
-) -> Reply {
+) -> Reply
+where
+    L::Content: Content + SoughtIn<L> + Drop,
+    L::Prepared: Drop,
+    L::Form: Shown,
+{
     match ask {
         Ask::GetOrIntern => interned(table.get_or_intern(form)),
         Ask::CheckInterned => Reply::Symbol(table.check_interned(form)),

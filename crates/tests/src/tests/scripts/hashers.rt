@@ -1,17 +1,15 @@
 //! How many hashers a table makes, and tables whose hashes are equal, share buckets or are random.
-use super::asks::OwnedTable;
+use super::asks::OwnedKind;
 use super::each::{Script, try_on_each, try_on_owned, try_on_packed};
 use super::script::{lines_of, makes_calls};
-use super::table::Table;
 use crate::support::builders::{Counted, HasherCount};
 use crate::support::kinds::{Host, StrKind, TestKind};
-use crate::support::tables::TestStore;
 use crate::tests::assertions::same;
 use intaglio::packed::Packed;
 use intaglio::path::{Path, PathContent};
 use intaglio::{
-    AddedTo, BaseInterner, ContentOf, Copied, Keyed, LookedUpIn, Sought, StrContent, TableOver,
-    Work, check_all,
+    AddedTo, BaseInterner, Content, ContentOf, Copied, Indexed, Keyed, LookedUpIn, Sought,
+    SoughtIn, StrContent, Table, TableOver, Work, check_all,
 };
 use intaglio_core::look_ahead;
 use std::hash::RandomState;
@@ -56,7 +54,15 @@ fn a_table_made_of_forms_hashes_each_once(rt: HostRuntime) {
 }
 
 // Asserts how many hashers a table makes that is made of forms.
-fn hashes_forms<'q, L: TestStore + LookedUpIn<'q>>(rt: &impl Host, forms: &[L::By], wanted: usize) {
+fn hashes_forms<'q, L: LookedUpIn<'q> + Indexed + Drop>(
+    rt: &impl Host,
+    forms: &[L::By],
+    wanted: usize,
+)
+where
+    L::Content: Content + SoughtIn<L> + Drop,
+    L::Prepared: Drop,
+{
     let made = TableOver::<L, Counted>::from_slice(rt.alloc(), Counted::new(None), forms);
     same(rt, made.expect(rt, "memory").hasher().made(), Some(wanted));
 }
@@ -93,11 +99,15 @@ fn a_call_by_a_hash_makes_no_hasher(rt: HostRuntime) {
 }
 
 // Asserts how many hashers a table makes for these calls.
-fn hashes_counted_calls<H, L: TestStore, Q: AddedTo<L, H> + Copy>(
+fn hashes_counted_calls<H, L: Indexed + Drop, Q: AddedTo<L, H> + Copy>(
     rt: &impl Host,
     values: &[Q],
     wanted: usize,
-) {
+)
+where
+    L::Content: Content + SoughtIn<L> + Drop,
+    L::Prepared: Drop,
+{
     let made = TableOver::<L, Counted>::with_hasher(rt.alloc(), Counted::new(None));
     let mut table = made.expect(rt, "no table");
     makes_counted_calls::<H, _, _>(rt, &mut table, values);
@@ -142,11 +152,8 @@ fn random_hashes_serve_too(rt: HostRuntime) {
     plays_under::<StrKind>(&rt, hasher);
 }
 
-fn plays_under<K: TestKind>(rt: &impl Host, hasher: RandomState)
-where
-    OwnedTable<K, RandomState>: Table<Item = ContentOf<K>>,
-{
-    let made = OwnedTable::<K, RandomState>::with_hasher(rt.alloc(), hasher);
+fn plays_under<K: TestKind + OwnedKind>(rt: &impl Host, hasher: RandomState) {
+    let made = Table::<ContentOf<K>, RandomState>::with_hasher(rt.alloc(), hasher);
     makes_calls(rt, &mut made.expect(rt, "no table"), &lines_of(rt, RANDOM));
 }
 

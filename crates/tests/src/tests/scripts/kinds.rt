@@ -1,6 +1,6 @@
 //! What only some kinds of content have: spellings of equal paths, zero bytes, and bytes that aren't UTF-8.
-use super::each::{Kept, Owned, Script, Trial, on_paths, try_on_bytes, try_on_each};
-use crate::support::kinds::{CStrKind, Host, TestContent};
+use super::each::{Kept, Script, on_paths, try_on_bytes, try_on_each, try_owned};
+use crate::support::kinds::{CStrKind, Host, TestKind};
 use crate::tests::assertions::same;
 use intaglio::cstr;
 use intaglio::cstr::CStrContent;
@@ -44,7 +44,7 @@ fn zeros_are_bytes(rt: HostRuntime) {
 fn bytes_that_are_no_text_are_kept(rt: HostRuntime) {
     let bytes: [&[u8]; 5] = [b"\x00", b"\xff", b"\x00\xff", b"\x00\xfe", b"\x00\xff\x00"];
     try_on_bytes(&rt, &Kept(&bytes));
-    Kept(&[b"\xff"]).try_on::<Owned<CStrKind>, _>(&rt);
+    try_owned::<CStrKind, _>(&rt, &Kept(&[b"\xff"]));
 }
 
 #[test]
@@ -67,6 +67,6 @@ fn keeps_the_zero(rt: &impl Host, content: Option<CStrContent>, ended: &[u8]) {
 
 #[test]
 fn a_zero_ends_a_c_string(rt: HostRuntime) {
-    keeps_the_zero(&rt, CStrContent::borrowed("abc\0"), b"abc\x00");
-    keeps_the_zero(&rt, CStrContent::owned(rt.alloc(), b"abc"), b"abc\x00");
+    keeps_the_zero(&rt, CStrKind::borrowed("abc\0"), b"abc\x00");
+    keeps_the_zero(&rt, CStrKind::owned(rt.alloc(), b"abc"), b"abc\x00");
 }

@@ -12,7 +12,7 @@ use intaglio::{Reply, Symbol};
 pub fn asked<T: Table>(rt: &impl Host, table: &mut T, spelling: &[u8], ask: Ask) -> String {
     let mut contents = Vec::new(rt.alloc());
     contents.push(content(rt, spelling)).expect(rt, "memory");
-    table.ask(rt, &contents, ask)
+    table.ask(rt, &contents, "", ask)
 }
 
 // Asserts what the call by the spelling returns.

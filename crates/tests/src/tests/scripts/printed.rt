@@ -78,14 +78,6 @@ pub fn inserted_text(rt: &impl Host, inserted: Result<(Symbol, bool), InternErro
     }
 }
 
-/// A symbol and its form as text, or that there is none.
-pub fn found_text<F: Shown>(rt: &impl Host, found: Option<(Symbol, F)>) -> String {
-    match found {
-        Some((symbol, form)) => numbered(rt, symbol, form.shown()),
-        None => word(rt, "none"),
-    }
-}
-
 /// A word as text of its own.
 pub fn word(rt: &impl Host, word: &str) -> String {
     word.to_string(rt.alloc()).expect(rt, "memory")

@@ -5,7 +5,7 @@ use super::asks::Ask;
 use super::loops::{asked, makes_turns};
 use super::printed::{number, reply_text, spelled, symbols_text, word};
 use super::steps::walked;
-use super::table::{Makes, Table};
+use super::table::{Counts, Makes, Table};
 use crate::support::builders::Counted;
 use crate::support::kinds::{Host, TestContent};
 use crate::support::replies::{interned, roomy};
@@ -95,32 +95,27 @@ pub fn way(rt: &impl Host, line: Line) -> Option<Result<Make, Counted>> {
     }
 }
 
-/// The calls on one table, and the one that makes it.
-#[derive(Drop)]
-pub struct Part {
-    pub first: Line,
-    pub calls: Vec<Line>,
-}
-
-/// The calls of a script, by tables.
-pub fn parts_of(rt: &impl Host, script: &'static str) -> Vec<Part> {
-    let mut parts: Vec<Part> = Vec::new(rt.alloc());
-    for first in lines_of(rt, script) {
-        match parts.last_mut() {
-            Some(part) if way(rt, first).is_none() => part.calls.push(first).expect(rt, "memory"),
-            _ => {
-                let calls = Vec::new(rt.alloc());
-                parts.push(Part { first, calls }).expect(rt, "memory");
-            }
+/// The call that makes the first table, the calls on this one, and the rest.
+pub fn split_part<'l>(rt: &impl Host, lines: &'l [Line]) -> Option<(Line, &'l [Line], &'l [Line])> {
+    let (first, after) = lines.split_first()?;
+    for i in 0..after.len() {
+        if way(rt, after[i]).is_some() {
+            return Some((*first, &after[..i], &after[i..]));
         }
     }
-    parts
+    Some((*first, after, &[]))
 }
 
 /// Makes the calls of a script.
 pub fn plays<T: Makes>(rt: &impl Host, script: &'static str) {
-    for part in parts_of(rt, script) {
-        plays_part::<T>(rt, part.first, &part.calls);
+    let lines = lines_of(rt, script);
+    let mut rest = lines.as_slice();
+    for _ in 0..lines.len() {
+        let Some((first, calls, others)) = split_part(rt, rest) else {
+            return;
+        };
+        plays_part::<T>(rt, first, calls);
+        rest = others;
     }
 }
 
@@ -173,7 +168,7 @@ fn reply<T: Table>(rt: &impl Host, table: &mut T, line: Line) -> Option<Reply> {
         "index" => Some(spelled(rt, table.index(symbol(rt, line.word)))),
         _ => match update(rt, line) {
             Some(update) => Some(table.update(update)),
-            None => table.number(line.name, line.word),
+            None => count(rt, table.counts(), line),
         },
     }
 }
@@ -187,6 +182,19 @@ fn update(rt: &impl Host, line: Line) -> Option<Update> {
         "shrink_to_fit" => Some(Update::ShrinkToFit),
         "clear" => Some(Update::Clear),
         "take_back" => Some(Update::TakeBack(size(rt, line.word))),
+        _ => None,
+    }
+}
+
+fn count(rt: &impl Host, counts: Counts, line: Line) -> Option<Reply> {
+    match line.name {
+        "len" => Some(Reply::Count(counts.len)),
+        "is_empty" => Some(Reply::Bool(counts.is_empty)),
+        "capacity" => Some(Reply::Count(counts.capacity)),
+        "fits" => Some(Reply::Bool(counts.capacity >= size(rt, line.word))),
+        "limit" => Some(Reply::Count(counts.limit)),
+        "mark" => Some(Reply::Count(counts.mark.count())),
+        "hashers" => Some(Reply::Count(counts.hashers?)),
         _ => None,
     }
 }
@@ -214,20 +222,20 @@ fn batch<T: Table>(rt: &impl Host, table: &mut T, line: Line) -> String {
     }
     match line.name {
         "symbols" => walked(rt, table.symbols(), line.word),
-        "intern_all" => symbols_text(rt, table.put_all(words)),
+        "intern_all" => symbols_text(rt, table.put_all(rt.alloc(), words)),
         "intaglio::intern_all" => symbols_text(rt, table.put_counted(rt.alloc(), words)),
-        _ => match batch_ask(line) {
-            Some(ask) => table.ask(rt, &words, ask),
+        _ => match batch_ask(line.name) {
+            Some(ask) => table.ask(rt, &words, line.word, ask),
             None => word(rt, "no such call"),
         },
     }
 }
 
-fn batch_ask(line: Line) -> Option<Ask> {
-    match line.name {
-        "forms" => Some(Ask::Forms(line.word)),
-        "pairs" => Some(Ask::Pairs(line.word)),
-        "each" => Some(Ask::Each(line.word)),
+fn batch_ask(name: &str) -> Option<Ask> {
+    match name {
+        "forms" => Some(Ask::Forms),
+        "pairs" => Some(Ask::Pairs),
+        "each" => Some(Ask::Each),
         "get_or_intern_all" => Some(Ask::GetOrInternAll),
         "intaglio::get_or_intern_all" => Some(Ask::CountedAll),
         "check_all" => Some(Ask::CheckAll),

@@ -1,5 +1,5 @@
 //! Steps on iterators, by their names.
-use super::printed::{Shown, found_text, number, text, word};
+use super::printed::{Shown, number, numbered, text, word};
 use crate::support::kinds::Host;
 use intaglio::{AllSymbols, Content, Forms, Lends, Pairs, Symbol};
 
@@ -76,7 +76,10 @@ where
 {
     fn step<R: Host>(&mut self, rt: &R, name: &str) -> String {
         match name {
-            "next" => found_text(rt, self.next()),
+            "next" => match self.next() {
+                Some((symbol, form)) => numbered(rt, symbol, form.shown()),
+                None => word(rt, "none"),
+            },
             "count" => {
                 let mut count: usize = 0;
                 for _ in self.clone().expect(rt, "memory") {
