@@ -1,24 +1,10 @@
 -- What a change of a table is to the bytes of its contents.
-use Rattle.std.specs.Prelude.{◌≡◌, ◌<◌, ◌∷◌, ◌++◌}
-use Rattle.intaglio_c.proofs.Names.{ℕ, inl, inr, Bool, true, false, List, [], map, refl, sym, ap, subst, ◌∙◌, arith, Option, Some, None, MatchOption, Result, Ok, Err, take-map, length-map, map-append, State, Table, first, first_of, AddsNew, InternsValue, IsOutOfMemory, IsRefused, fault, HasKey, key, IsFaultless, Seen, as_bytes, seen_of, position, look_up, unless, IsChangedBy, InternsBy, InternsNew, KeyedState, Kind, Refusal}
-use Rattle.intaglio_content.specs.Key.{Key}
+use Rattle.intaglio_c.proofs.Names.{◌≡◌, ◌<◌, ◌∷◌, ◌++◌, common_steps, ℕ, inl, inr, Bool, true, false, List, [], map, refl, sym, ap, subst, ◌∙◌, arith, Option, Some, None, MatchOption, Result, Ok, Err, take-map, length-map, map-append, State, Table, first, first_of, AddsNew, InternsValue, IsOutOfMemory, IsRefused, fault, HasKey, key, IsFaultless, Seen, as_bytes, seen_of, position, look_up, unless, IsChangedBy, InternsBy, InternsNew, KeyedState, Kind, Refusal, Key, InternError, Overflow, Memory, symbol_answer, found}
 use Rattle.intaglio_content.specs.Store.{IsMoved, IsPushed}
-use Rattle.intaglio_symbol.specs.declared.error.InternError.{InternError}
-use Rattle.intaglio_symbol.specs.declared.error.InternError.TheVariants.{Overflow, Memory}
-use Rattle.intaglio_c.specs.Handles.{symbol_answer, found}
 use Rattle.intaglio_c.proofs.Faults.{untested}
 
 -- what the bytes of the first contents are
 pub ruleset first_bytes = (length-map, take-map)
-
--- a table whose state alone changed, as it is seen
-pub changed : {C : Type 0} (old : Seen) (kind : Kind) (bytes : C → List ℕ) (s s' : State C)
-    (h h' : KeyedState) (Step : State (List ℕ) → State (List ℕ) → Type 0)
-    → old ≡ seen_of kind bytes s h → h' ≡ h → Step (as_bytes bytes s) (as_bytes bytes s')
-    → IsChangedBy old (seen_of kind bytes s' h') Step
-changed old kind bytes s s' h h' Step is same step =
-    subst (λ (x : Seen). IsChangedBy x (seen_of kind bytes s' h') Step) (sym is)
-    (record { kind = refl; hasher = same; step = step })
 
 module _ {C : Type 0} (bytes : C → List ℕ) where
   -- an interning of what isn't stored
@@ -110,17 +96,11 @@ module _ {C : Type 0} (kind : Kind) (bytes : C → List ℕ) (content_key : C �
       → IsChangedBy old (seen_of kind bytes t'.state t'.hasher)
       (λ _ s'. InternsBy (copies old.kind) b old.state (look_up old b) answer s')
   interned copies adds old held h t' b k result answer is hasher allowed spelled grows step answered =
-      let s = as_bytes bytes held in let s' = as_bytes bytes t'.state in let given = symbol_answer result in
-      let looked_up = by_look_up bytes adds (copies kind) (first content_key held.contents k) held t'.state b
-      result grows step in let placed =
-      subst (λ (o : Option ℕ). InternsBy (copies kind) b s (Ok o) given s')
-      (place held.contents b k spelled) looked_up in let tested =
-      subst (λ (f : Option Refusal).
-      InternsBy (copies kind) b s (unless f (position (seen_of kind bytes held h) b)) given s')
-      (sym (subst (λ (x : Seen). fault x.kind b ≡ None) is allowed)) placed in
-      subst (λ (a : Result ℕ Refusal).
-      IsChangedBy old (seen_of kind bytes t'.state t'.hasher)
-      (λ _ x. InternsBy (copies old.kind) b old.state (look_up old b) a x)) (sym answered)
-      (changed old kind bytes held t'.state h t'.hasher
-      (λ _ x. InternsBy (copies old.kind) b old.state (look_up old b) given x) is hasher
-      (subst (λ (x : Seen). InternsBy (copies x.kind) b x.state (look_up x b) given s') (sym is) tested))
+      subst (λ (x : Seen). fault x.kind b ≡ None → IsChangedBy x (seen_of kind bytes t'.state t'.hasher)
+      (λ _ s'. InternsBy (copies x.kind) b x.state (look_up x b) answer s')) (sym is) (λ none. record {
+        kind = refl;
+        hasher = hasher;
+        step = subst (λ (X : Type 0). X) (λ j. InternsBy (copies kind) b (as_bytes bytes held)
+            (unless (sym none j) (place held.contents b k spelled j)) (sym answered j) (as_bytes bytes t'.state))
+            (by_look_up bytes adds (copies kind) (first content_key held.contents k) held t'.state b result grows step);
+      }) allowed

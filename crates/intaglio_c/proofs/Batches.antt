@@ -1,27 +1,12 @@
 -- Batches, one string at a time.
-use Rattle.std.specs.Prelude.{◌≡◌, ◌+◌, ◌-◌, ◌<◌, ◌≤◌, ◌∷◌, ◌++◌}
-use Rattle.intaglio_c.proofs.Names.{ℕ, zero, suc, Bool, true, false, cond, inl, inr, List, [], length, map, take, drop, refl, sym, ap, subst, ◌∙◌, le_refl, arith, length-append, append_assoc, append-nil, Option, Some, None, Result, Ok, Err, is_some, unwrap_or, slice_get, concat, get_or, set, take-append-le, take_all, take_more, take_more_set, take_at, take-append-drop, drop_at, map_push, drop-drop, length-drop, slice_get_within, IfOk-at_ok, IfErr-at_err, IsAppended, issued, interned, interned_all, issue_from, State, first, AreCopied, AreFirstCopied, AreStored, ends_from, AreInterned, IsBegun, IsRolledBack, InternsOr, fault, first_fault, key, Seen, position, unless, IsChangedBy, Interns, InternsBy, Kind, Refusal}
+use Rattle.intaglio_c.proofs.Names.{◌≡◌, ◌+◌, ◌-◌, ◌<◌, ◌≤◌, ◌∷◌, ◌++◌, common_steps, drop-set-lt, ℕ, Bool, true, false, cond, inl, inr, List, [], length, map, take, drop, refl, sym, ap, subst, ◌∙◌, le_refl, arith, length-append, append_assoc, append-nil, Option, Some, None, Result, Ok, Err, is_some, unwrap_or, slice_get, concat, get_or, set, take-append-le, take_all, take_more, take_more_set, take_at, take-append-drop, drop_at, map_push, drop-drop, length-drop, slice_get_within, IfOk-at_ok, IfErr-at_err, IsAppended, issued, interned, interned_all, issue_from, State, first, AreCopied, AreFirstCopied, AreStored, ends_from, AreInterned, IsBegun, IsRolledBack, InternsOr, fault, first_fault, key, Seen, position, unless, IsChangedBy, Interns, InternsBy, Kind, Refusal, drop_there, take_there}
 use Rattle.std.proofs.Math.Seq.{take-length}
-use Rattle.std.proofs.lemmas.List.{drop-set-lt}
 use Rattle.std.proofs.lemmas.List.Folds.{concat-append}
 use borrow.Rule.Slice.PartMut.{put_mid}
 use Rattle.intaglio_interner.proofs.Laws.{interned_all-found}
-use Rattle.intaglio_interner.proofs.Held.{interned_all-append, interned_all-longer, issue_from-append}
+use Rattle.intaglio_interner.proofs.Held.{interned_all-append, issue_from-append}
 use Rattle.intaglio_c.proofs.Faults.{one-more}
-use Rattle.intaglio_frozen.proofs.HashedAhead.{drop_there, take_there}
 use Rattle.intaglio_c.specs.declared.refusal.Refusal.TheVariants as refusal
-
--- the capacity after one interning
-taken-capacity : (s s' : State (List ℕ)) (string : List ℕ) (symbol : ℕ) → IsAppended s string symbol s' →
-    length s.contents + s.spare ≤ length s'.contents + s'.spare
-taken-capacity s s' string symbol taken = by_room s.spare refl
-  where
-    count : length s'.contents ≡ length s.contents + 1
-    count = ap length taken.contents ∙ length-append s.contents (string ∷ [])
-
-    by_room : (n : ℕ) → s.spare ≡ n → length s.contents + s.spare ≤ length s'.contents + s'.spare
-    by_room zero e = omega (arith, count, e)
-    by_room (suc n) e = omega (arith, count, (taken.spare (omega (arith, e))).0)
 
 -- if the state stays the same, all of this does
 unchanged : (s s' : State (List ℕ)) → s' ≡ s → IsRolledBack s s'
@@ -35,7 +20,7 @@ accepted-by : (fault : Option Refusal) (o : Option ℕ) (s s' : State (List ℕ)
     × (s'.contents ≡ cond (is_some o) s.contents (s.contents ++ string ∷ []))
     × (length s.contents + s.spare ≤ length s'.contents + s'.spare) × (s'.limit ≡ s.limit)
 accepted-by None None s s' string symbol taken =
-    (refl, taken.position, taken.contents, taken-capacity s s' string symbol taken, taken.limit)
+    (refl, taken.position, taken.contents, grind (arith, common_steps), taken.limit)
 accepted-by None (Some i) s s' string symbol known = let kept = unchanged s s' known.1 in
     (refl, IfOk-at_ok (λ n. symbol ≡ n) known.0 refl, kept.contents, kept.capacity, kept.limit)
 accepted-by (Some r) o s s' string symbol refused = absurd (IfErr-at_err (λ _. ⊥) refused.0 tt)
@@ -45,11 +30,7 @@ kept-by : (f : Option Refusal) (o : Option ℕ) (s s' : State (List ℕ)) (strin
     InternsBy true string s (unless f o) (Err r) s' → IsRolledBack s s'
 kept-by None None s s' string refusal.Full full = unchanged s s' full.1
 kept-by None None s s' string refusal.NoMemory (inl kept) = unchanged s s' kept.same
-kept-by None None s s' string refusal.NoMemory (inr kept) = record {
-  contents = kept.contents;
-  capacity = omega (arith, ap length kept.contents, kept.spare);
-  limit = kept.limit;
-}
+kept-by None None s s' string refusal.NoMemory (inr kept) = grind (arith, common_steps)
 kept-by None None s s' string _ never = absurd never
 kept-by None (Some i) s s' string r known = unchanged s s' known.1
 kept-by (Some f) o s s' string r refused = unchanged s s' refused.1
@@ -68,17 +49,6 @@ front kind n held (string ∷ strings) within =
     by_known false =
         (omega (arith, within, length-append held (string ∷ [])), take-append-le n held (string ∷ []) within)
 
--- after strings are interned, a state with these contents and no less capacity begins with what was held
-begun : (t : Seen) (strings : List (List ℕ)) (symbols : List ℕ) (s s' : State (List ℕ)) →
-    AreInterned t strings symbols s → IsRolledBack s s' → IsBegun t.state s'
-begun t strings symbols s s' all kept = let held = t.state.contents in
-    let are : s'.contents ≡ interned_all (key t.kind) held strings = kept.contents ∙ all.contents in record {
-      within = omega (arith, ap length are, interned_all-longer (key t.kind) held strings);
-      contents = ap (take (length held)) kept.contents ∙ all.kept;
-      capacity = omega (arith, all.capacity, kept.capacity);
-      limit = kept.limit ∙ all.limit;
-    }
-
 module _ (t0 : Seen) (strings : List (List ℕ)) where
   -- the first strings are interned
   abbrev pub Begins : Seen → ℕ → List ℕ → Type 0
@@ -91,29 +61,22 @@ module _ (t0 : Seen) (strings : List (List ℕ)) where
   turned t t' symbols i symbol string result there places begins ok step =
       let k = key t0.kind in let held = t0.state.contents in let one = string ∷ [] in let all = begins.step in
       let more = take_there strings i string there in
-      let taken = accepted-by (fault t.kind string) (position t string) t.state t'.state string symbol
-      (subst (λ (r : Result ℕ Refusal). Interns string t r t'.state) ok step.step) in
-      let none : fault t0.kind string ≡ None =
-      subst (λ (x : Kind). fault x string ≡ None) begins.kind taken.0 in
-      let issue : symbol ≡ issued k t.state.contents string =
-      subst (λ (x : Kind). symbol ≡ issued (key x) t.state.contents string) begins.kind taken.1 in
-      let grown : t'.state.contents ≡ interned k t.state.contents string =
-      subst (λ (x : Kind). t'.state.contents ≡ interned (key x) t.state.contents string)
-      begins.kind taken.2 in
+      let taken = rw begins.kind at (accepted-by (fault t.kind string) (position t string) t.state t'.state
+      string symbol (rw ok at step.step)) in
       let given : take (i + 1) (set symbols i symbol) ≡ issue_from k held (take (i + 1) strings) =
       take_more_set symbols i symbol (omega (arith, slice_get_within strings i string there, places))
-      ∙ (λ j. all.symbols j ++ (issue ∙ ap (λ (cs : List (List ℕ)). issued k cs string) all.contents) j
+      ∙ (λ j. all.symbols j ++ (taken.1 ∙ ap (λ (cs : List (List ℕ)). issued k cs string) all.contents) j
       ∷ [])
       ∙ sym (issue_from-append k held (take i strings) one) ∙ ap (issue_from k held) (sym more) in
       let after : t'.state.contents ≡ interned_all k held (take (i + 1) strings) =
-      grown ∙ ap (λ (cs : List (List ℕ)). interned k cs string) all.contents
+      taken.2 ∙ ap (λ (cs : List (List ℕ)). interned k cs string) all.contents
       ∙ sym (interned_all-append k held (take i strings) one) ∙ ap (interned_all k held) (sym more) in
       record {
         kind = step.kind ∙ begins.kind;
         hasher = step.hasher ∙ begins.hasher;
         step = record {
           faultless =
-              ap (first_fault t0.kind) more ∙ one-more t0.kind (take i strings) string all.faultless none;
+              ap (first_fault t0.kind) more ∙ one-more t0.kind (take i strings) string all.faultless taken.0;
           symbols = given;
           contents = after;
           found = interned_all-found k t0.state t'.state (take (i + 1) strings) _ given after;
@@ -129,8 +92,7 @@ module _ (t0 : Seen) (strings : List (List ℕ)) where
       → result ≡ Err refusal → IsChangedBy t t' (λ _ s'. Interns string t result s')
       → IsChangedBy t0 t' (λ _ s'. InternsOr IsBegun strings symbols t0 (Err refusal) s')
   stopped t t' issued symbols i string refusal result there begins err step =
-      let failed : Interns string t (Err refusal) t'.state =
-      subst (λ (r : Result ℕ Refusal). Interns string t r t'.state) err step.step in record {
+      let failed = rw err at step.step in record {
         kind = step.kind ∙ begins.kind;
         hasher = step.hasher ∙ begins.hasher;
         step = (
@@ -145,12 +107,11 @@ module _ (t0 : Seen) (strings : List (List ℕ)) where
             contents = begins.step.contents;
             limit = begins.step.limit;
             left = t'.state;
-            alone = subst (λ (x : Kind).
-                Interns string (record { kind = x; state = t.state; hasher = t0.hasher }) (Err refusal)
-                t'.state) begins.kind failed;
+            alone = rw begins.kind at failed;
           },
-          begun t0 (take i strings) issued t.state t'.state begins.step
-              (kept-by (fault t.kind string) (position t string) t.state t'.state string refusal failed),
+          let all = begins.step in let kept =
+              kept-by (fault t.kind string) (position t string) t.state t'.state string refusal failed in
+              grind (arith, common_steps),
         );
       }
 
@@ -158,10 +119,7 @@ module _ (t0 : Seen) (strings : List (List ℕ)) where
       length symbols ≡ length strings → Begins t i (take i symbols) →
       IsChangedBy t0 t (λ _ s'. InternsOr IsBegun strings symbols t0 (Ok tt) s')
   finished t symbols i end places all =
-      subst (λ (ws : List (List ℕ)). IsChangedBy t0 t (λ _ s'. AreInterned t0 ws symbols s'))
-      (take_all i strings end)
-      (subst (λ (ns : List ℕ). IsChangedBy t0 t (λ _ s'. AreInterned t0 (take i strings) ns s'))
-      (take_all i symbols (omega (arith, end, places))) all)
+      rw (take_all i strings end, take_all i symbols (omega (arith, end, places))) at all
 
 -- the strings of symbols
 ends_from-append : (n : ℕ) (xs ys : List (List ℕ)) →
@@ -193,29 +151,6 @@ module _ (contents : List (List ℕ)) (old : List ℕ) where
     at.within,
   )
 
-  -- one string more is stored
-  stored_more : (symbols new ends : List ℕ) (start i : ℕ) (string : List ℕ) → i < length symbols →
-      (at : IsCopied (take i symbols) new start ends) → slice_get contents (get_or symbols i 0) ≡ Some string
-      → AreStored contents (take (i + 1) symbols) (at.done ++ string ∷ [])
-  stored_more symbols new ends start i string inside at there =
-      ap (map (slice_get contents)) (take_more symbols i 0 inside)
-      ∙ map_push (slice_get contents) (take i symbols) (get_or symbols i 0)
-      ∙ (λ j. at.stored j ++ there j ∷ []) ∙ sym (map_push Some at.done string)
-
-  concat_more : (done : List (List ℕ)) (string : List ℕ) →
-      concat (done ++ string ∷ []) ≡ concat done ++ string
-  concat_more done string =
-      concat-append done (string ∷ []) ∙ ap (λ (x : List ℕ). concat done ++ x) (append-nil string)
-
-  -- what is copied so far
-  pub are_copied : (symbols new ends : List ℕ) (start : ℕ) → (at : IsCopied symbols new start ends) →
-      AreCopied at.done old new ends
-  are_copied symbols new ends start at = record {
-    within = omega (arith, at.place, at.within);
-    buffer = at.buffer ∙ ap (λ (n : ℕ). concat at.done ++ drop n old) at.place;
-    ends = at.written;
-  }
-
   -- a copy that ends before the symbol i
   abbrev pub first_copied : (symbols new ends places : List ℕ) (start i : ℕ) →
       IsCopied (take i symbols) new start (take i ends) → drop i ends ≡ drop i places
@@ -223,7 +158,11 @@ module _ (contents : List (List ℕ)) (old : List ℕ) where
   first_copied symbols new ends places start i at rest = record {
     strings = at.done;
     stored = at.stored;
-    copied = are_copied _ _ _ _ at;
+    copied = record {
+      within = omega (arith, at.place, at.within);
+      buffer = at.buffer ∙ ap (λ (n : ℕ). concat at.done ++ drop n old) at.place;
+      ends = at.written;
+    };
     rest = rest;
   }
 
@@ -240,7 +179,8 @@ module _ (contents : List (List ℕ)) (old : List ℕ) where
       → IsCopied (take (i + 1) symbols) (put_mid start (start + length string - start) new written)
       (start + length string) (take (i + 1) (set ends i (start + length string)))
   copied_more symbols new ends written start i string inside inside' at there fits same =
-      let end = start + length string in let rest = drop end old in let more = concat_more at.done string in
+      let end = start + length string in let rest = drop end old in let more : concat (at.done ++ string ∷ []) ≡ concat at.done ++ string =
+      concat-append at.done (string ∷ []) ∙ ap (λ (x : List ℕ). concat at.done ++ x) (append-nil string) in
       let front : take start new ≡ concat at.done = ap (take start) at.buffer
       ∙ take_at (concat at.done) (drop start old) start (omega (arith, at.place)) in
       let left : drop start new ≡ drop start old = ap (drop start) at.buffer
@@ -250,7 +190,9 @@ module _ (contents : List (List ℕ)) (old : List ℕ) where
       ap (drop (end - start)) left ∙ drop-drop (end - start) start old ∙ ap (λ (n : ℕ). drop n old) sum in
       let ending : end ≡ 0 + length (concat at.done) + length string = omega (arith, at.place) in record {
         done = at.done ++ string ∷ [];
-        stored = stored_more symbols new _ start i string inside at there;
+        stored = ap (map (slice_get contents)) (take_more symbols i 0 inside)
+            ∙ map_push (slice_get contents) (take i symbols) (get_or symbols i 0)
+            ∙ (λ j. at.stored j ++ there j ∷ []) ∙ sym (map_push Some at.done string);
         place = omega (arith, at.place, ap length more, length-append (concat at.done) string);
         within = omega (arith, fits, size _ _ _ _ at);
         buffer = (λ j. front j ++ (same j ++ back j)) ∙ sym (append_assoc (concat at.done) string rest)
@@ -266,7 +208,7 @@ module _ (contents : List (List ℕ)) (old : List ℕ) where
   all_copied symbols new ends start i end places at = (
     at.done,
     ap (map (slice_get contents)) (sym (take_all i symbols end)) ∙ at.stored,
-    subst (AreCopied at.done old new) (take_all i ends (omega (arith, end, places))) (are_copied _ _ _ _ at),
+    subst (AreCopied at.done old new) (take_all i ends (omega (arith, end, places))) (first_copied symbols new ends ends start i at refl).copied,
   )
 
 -- what isn't written yet stays behind one end more

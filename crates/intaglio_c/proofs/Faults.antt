@@ -1,13 +1,8 @@
 -- Which bytes a kind doesn't take.
-use Rattle.intaglio_c.proofs.Names.{◌∙◌, Bool, ℕ, zero, suc, true, false, List, [], length, take, refl, sym, ap, cond, inl, inr, Option, Some, None, Result, Ok, Err, IsUtf8, is_some, get_or, none-some, TakesBack, interned, interned_all, State, first, StaleMark, Either, InternsOr, IsRolledBack, broken, earlier, fault, first_fault, HasKey, key, utf8_fault, Kind, Refusal, BadEnds, Full, NoMemory, NotUtf8, IsFaultless, AnyTable, fault_in, seen, Seen, look_up, position, unless, InternsBy}
-use Rattle.std.specs.Prelude.{◌≡◌, ◌∷◌, ◌++◌, ◌⊎◌, if◌then◌else◌, ◌==◌, ◌≢◌}
-use Rattle.std.specs.Str.{is_utf8}
+use Rattle.intaglio_c.proofs.Names.{arith, common_steps, ◌≡◌, ◌∷◌, ◌++◌, ◌⊎◌, if◌then◌else◌, ◌==◌, ◌≢◌, ◌∙◌, Bool, ℕ, zero, suc, true, false, List, [], length, take, refl, sym, ap, cond, inl, inr, Option, Some, None, Result, Ok, Err, IsUtf8, is_some, get_or, none-some, TakesBack, interned, interned_all, State, first, StaleMark, Either, InternsOr, IsRolledBack, broken, earlier, fault, first_fault, HasKey, key, utf8_fault, Kind, Refusal, BadEnds, Full, NoMemory, NotUtf8, IsFaultless, AnyTable, fault_in, seen, Seen, look_up, position, unless, InternsBy, is_utf8, Absorbs, found, Owned, Path, Packed}
 use Rattle.std.proofs.lemmas.Str.{IsUtf8-from_is_utf8, is_utf8-from_IsUtf8}
 use Rattle.intaglio_frozen.specs.Layout.{strings}
 use Rattle.intaglio_interner.proofs.First.{key_eq-unequal}
-use Rattle.intaglio_c.specs.Frozen.{Absorbs}
-use Rattle.intaglio_c.specs.Handles.{found}
-use Rattle.intaglio_c.specs.declared.kind.Kind.TheVariants.{Owned, Path, Packed}
 
 -- texts
 abbrev utf8_fault_by : Bool → Option Refusal
@@ -19,21 +14,13 @@ good-text bs good = ap utf8_fault_by (is_utf8-from_IsUtf8 bs good)
 
 -- bytes that aren't UTF-8 have the fault `NotUtf8`
 pub bad-text : (bs : List ℕ) → ¬ (IsUtf8 bs) → utf8_fault bs ≡ Some NotUtf8
-bad-text bs bad = elim (is_utf8 bs) as (λ b. is_utf8 bs ≡ b → utf8_fault bs ≡ Some NotUtf8) [
-  | true ↦
-      λ e. absurd (bad (IsUtf8-from_is_utf8 bs e))
-  | false ↦ λ e. ap utf8_fault_by e
-] refl
+bad-text bs bad = grind (arith, common_steps, IsUtf8-from_is_utf8 bs)
 
 pub ruleset texts = (good-text, bad-text)
 
 -- bytes without a fault as a text are UTF-8
 pub is_text : (bs : List ℕ) → utf8_fault bs ≡ None → IsUtf8 bs
-is_text bs none = elim (is_utf8 bs) as (λ b. is_utf8 bs ≡ b → IsUtf8 bs) [
-  | true ↦ λ e. IsUtf8-from_is_utf8 bs e
-  | false ↦
-      λ e. absurd (none-some NotUtf8 (sym none ∙ ap utf8_fault_by e))
-] refl
+is_text bs none = grind (arith, common_steps, IsUtf8-from_is_utf8 bs)
 
 -- lists of strings
 earlier-assoc : (a b c : Option Refusal) → earlier (earlier a b) c ≡ earlier a (earlier b c)
@@ -77,19 +64,19 @@ all-interned k xs (s ∷ strings) none more = let both = neither (fault k s) (fi
     by_known true last = none
     by_known false last = one-more k xs s none last
 
--- what an interning leaves
-after : (f : Option Refusal) (o : Option ℕ) (copies : Bool) (b : List ℕ) (s s' : State (List ℕ))
-    (result : Result ℕ Refusal) → InternsBy copies b s (unless f o) result s'
-    → (s'.contents ≡ s.contents) ⊎ ((f ≡ None) × (s'.contents ≡ s.contents ++ b ∷ []))
-after None None copies b s s' (Ok i) taken = inr (refl, taken.contents)
-after None None copies b s s' (Err Full) full = inl (ap (λ (x : State (List ℕ)). x.contents) full.1)
-after None None false b s s' (Err NoMemory) kept = inl kept.contents
-after None None true b s s' (Err NoMemory) (inl kept) =
-    inl (ap (λ (x : State (List ℕ)). x.contents) kept.same)
-after None None true b s s' (Err NoMemory) (inr kept) = inl kept.contents
-after None None copies b s s' (Err _) never = absurd never
-after None (Some i) copies b s s' result known = inl (ap (λ (x : State (List ℕ)). x.contents) known.1)
-after (Some r) o copies b s s' result refused = inl (ap (λ (x : State (List ℕ)). x.contents) refused.1)
+-- what an interning leaves has no fault
+after : (k : Kind) (f : Option Refusal) (o : Option ℕ) (copies : Bool) (b : List ℕ) (s s' : State (List ℕ))
+    (result : Result ℕ Refusal) → fault k b ≡ f → InternsBy copies b s (unless f o) result s'
+    → first_fault k s.contents ≡ None → first_fault k s'.contents ≡ None
+after k None None copies b s s' (Ok i) good taken none =
+    ap (first_fault k) taken.contents ∙ one-more k s.contents b none good
+after k None None copies b s s' (Err Full) good full none = ap (λ (x : State (List ℕ)). first_fault k x.contents) full.1 ∙ none
+after k None None false b s s' (Err NoMemory) good kept none = ap (first_fault k) kept.contents ∙ none
+after k None None true b s s' (Err NoMemory) good (inl kept) none = ap (λ (x : State (List ℕ)). first_fault k x.contents) kept.same ∙ none
+after k None None true b s s' (Err NoMemory) good (inr kept) none = ap (first_fault k) kept.contents ∙ none
+after k None None copies b s s' (Err _) good never none = absurd never
+after k None (Some i) copies b s s' result good known none = ap (λ (x : State (List ℕ)). first_fault k x.contents) known.1 ∙ none
+after k (Some r) o copies b s s' result bad refused none = ap (λ (x : State (List ℕ)). first_fault k x.contents) refused.1 ∙ none
 
 -- so it is with the strings of a table that a handle holds
 pub held : {o : Option AnyTable} {x : AnyTable} → o ≡ Some x → fault_in o ≡ None → IsFaultless (seen x)
@@ -107,12 +94,8 @@ module _ (t t' : Seen) (same_kind : t'.kind ≡ t.kind) (faultless : IsFaultless
   pub with_interned : (copies : Bool) (b : List ℕ) (result : Result ℕ Refusal) →
       InternsBy copies b t.state (look_up t b) result t'.state → IsFaultless t'
   with_interned copies b result step =
-      by_case (after (fault t.kind b) (position t b) copies b t.state t'.state result step)
-    where
-      by_case : (t'.state.contents ≡ t.state.contents)
-          ⊎ ((fault t.kind b ≡ None) × (t'.state.contents ≡ t.state.contents ++ b ∷ [])) → IsFaultless t'
-      by_case (inl same) = with_contents _ same faultless
-      by_case (inr more) = with_contents _ more.1 (one-more t.kind t.state.contents b faultless more.0)
+      (λ i. first_fault (same_kind i) t'.state.contents)
+      ∙ after t.kind _ (position t b) copies b t.state t'.state result refl step faultless
 
   pub with_first_ones : (n : ℕ) (result : Result (Unit {0}) StaleMark) → TakesBack t.state n result t'.state →
       IsFaultless t'

@@ -3,6 +3,5 @@ pub mod Names
 pub mod AsBytes
 pub mod Faults
 pub mod Batches
-pub mod Hashes
 pub mod Pieces
 pub mod Walks

@@ -31,12 +31,14 @@ pub use types.Run.{enter, of_opd, lit, no_more, and_then, returns, load, stop, f
 pub use Rattle.std.below.core.proofs.alloc.Calls.{Goes-blank}
 pub use Rattle.std.proofs.alloc.Global.TheLaws.{lowers, the_row_laws}
 pub use Rattle.std.proofs.raw_atomic.Walks.{proved, proved_at}
-pub use Rattle.std.specs.Prelude.{IsSomeAnd, ⊤}
+pub use Rattle.std.specs.Prelude.{IsSomeAnd, ⊤, Option, None, Some}
 pub use Rattle.std.specs.contracts.alloc.Global.{the_row as allocator}
 pub use Rattle.std.specs.contracts.boxed.Box.{the_row as box_of}
 pub use Rattle.std.specs.contracts.impls.GlobalAllocator.TheImpl.{ghosts}
-pub use Rattle.std.specs.declared.option.Option.{Option}
-pub use Rattle.std.specs.declared.option.Option.TheVariants.{None, Some}
+pub use Rattle.intaglio_c.specs.Owned.{ptr_owns}
+pub use Rattle.intaglio_c.specs.contracts.any_table.AnyTable.{the_row as any_table}
+pub use Rattle.intaglio_c.specs.contracts.table_ptr.BoxParts.{the_row as parts_of}
+pub use Rattle.intaglio_c.specs.contracts.table_ptr.TablePtr.{the_row as table_ptr}
 use seplogic.Ra.Ura.{Ura}
 use denote.RattleType.{RattleType, Valss}
 use denote.Laws.{Is, shows}

@@ -3,9 +3,8 @@
 use Rattle.std.specs.Prelude.{◌≡◌, ◌+◌, ◌-◌, ◌^◌, ◌<◌, ◌≤◌, ◌==◌, if◌then◌else◌, ◌∷◌, ◌++◌}
 use Rattle.intaglio_c.specs.Words.{ℕ, Bool, true, false, nat_lt, List, [], length, map, take, drop, slice_get, get_or, Option, Some, None, MatchOption, Result, Ok, Err, AreFirst, State, Refusal, NoTable, BadEnds, NoSymbol, NoSpace, concat, issue_from, interned_all}
 use Rattle.intaglio_interner.specs.Lookup.{FindsEach}
-use Rattle.intaglio_c.specs.Handles.{found, table_of}
+use Rattle.intaglio_c.specs.Handles.{Handle, found, table_of}
 use Rattle.intaglio_c.specs.Seen.{first_fault, key, Seen, look_up, Interns}
-use Rattle.intaglio_c.specs.declared.handle.Handle.{Handle}
 
 -- the first if the condition is true, and otherwise the second
 abbrev pub Either : Bool → Type 0 → Type 0 → Type 0

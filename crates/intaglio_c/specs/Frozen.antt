@@ -8,9 +8,8 @@ use Rattle.intaglio_frozen.specs.declared.error.FreezeError.TheVariants as error
 use Rattle.intaglio_frozen.specs.declared.error.FrozenError.TheVariants as fault
 use Rattle.intaglio_frozen.specs.declared.kind.Kind.TheVariants as frozen
 use Rattle.intaglio_c.specs.Batches.{Either, FindsBy, InternsOr, IsRolledBack, or_absent}
-use Rattle.intaglio_c.specs.Handles.{GivesMade, table_of}
+use Rattle.intaglio_c.specs.Handles.{Handle, GivesMade, table_of}
 use Rattle.intaglio_c.specs.Seen.{rule_of, Seen}
-use Rattle.intaglio_c.specs.declared.handle.Handle.{Handle}
 use Rattle.intaglio_c.specs.declared.kind.Rule.TheVariants as rule
 use Rattle.intaglio_c.specs.Columns.{IsNoColumn}
 
@@ -101,17 +100,14 @@ FreezesHeld handle keys place buffer buffer' len len' result =
     MatchOption (table_of handle) ((result ≡ Err NoTable) × (buffer' ≡ buffer) × (len' ≡ len)) (λ t.
     GivesMade (IsFrozenOf t keys place) (CannotFreeze t place) buffer buffer' len len' result)
 
--- what a frozen table says: which shard of which set it is, and how many strings it has
-abbrev pub reference_in : List ℕ → Reference
-reference_in bs = record {
+-- what a frozen table says is written: which shard of which set it is, and how many strings it has; or what is
+-- wrong with the header is returned, and nothing is written
+abbrev pub ReadsReference : List ℕ → Reference → Reference → Result (Unit {0}) Refusal → Type 0
+ReadsReference bs old new (Ok _) = HasHeader bs × (new ≡ record {
   id = record { is_text = is_text_number (kind bs); count = count bs; hash0 = set0 bs; hash1 = set1 bs };
   shards = shards bs;
   shard = shard bs;
-}
-
--- it is written; or what is wrong with the header is returned, and nothing is written
-abbrev pub ReadsReference : List ℕ → Reference → Reference → Result (Unit {0}) Refusal → Type 0
-ReadsReference bs old new (Ok _) = HasHeader bs × (new ≡ reference_in bs)
+})
 ReadsReference bs old new (Err refusal) = (¬ HasHeader bs) × IsRefused bs refusal × (new ≡ old)
 
 -- what a column says of the dictionary to which its codes lead: in the map of a shard, it is the shard with
@@ -164,13 +160,9 @@ MakesSet made old new (Err refusal) = (refusal ≡ NoMemory) × (new.0 ≡ old.0
 abbrev pub single : Place
 single = record { set = record { hash0 = 0; hash1 = 0 }; shards = 1; shard = 0 }
 
--- whether the strings of a table are texts in a frozen table
-abbrev pub are_texts : Seen → Bool
-are_texts t = is_text_number (number_of (frozen_kind (rule_of t.kind)))
-
 -- what the dictionary of a table's strings in one file is
 pub record IsSingle (t : Seen) (r : Reference) : Type 0 where
-  pub id : IsIdOfStrings (are_texts t) t.state.contents r.id
+  pub id : IsIdOfStrings (is_text_number (number_of (frozen_kind (rule_of t.kind)))) t.state.contents r.id
   pub shards : r.shards ≡ 1
   pub shard : r.shard ≡ 0
 

@@ -3,7 +3,7 @@ use Rattle.std.specs.Prelude.{◌≡◌, ◌⊎◌, ◌<◌, ◌≤◌, ◌+◌,
 use Rattle.intaglio_c.specs.Words.{ℕ, Bool, true, false, Option, Some, None, Result, Ok, Err, Refusal, NoTable, Full, NoMemory, TooLarge, Stale, NotUtf8, InnerZero, MissingZero, BadEnds, NoSymbol, NoSpace, NoKind, NotFrozen, OtherVersion, Reserved, TooMany, Truncated, TextEnds, Unused, NotFound, TooLong, Equal, NoPlaces, NotColumn, BadWidth, TrailingBytes, BadShard, OtherIdentity, Damaged, InternError, Overflow, Memory, RoomError, StaleMark, IsErrAnd, List, [], length, drop, slice_get, nat_lt, option_map, option_and_then, MatchOption, IsSomeAnd, Empties, State, initial_hasher, Kind, DefaultHasher, Size}
 use Rattle.intaglio_symbol.specs.declared.error.RoomError.TheVariants as room_error
 use Rattle.intaglio_c.specs.Seen.{kind_of, IsOutside, Seen, most_of, room_of, seen, IsChangedBy, look_up}
-use Rattle.intaglio_c.specs.declared.handle.Handle.{Handle}
+pub use Rattle.intaglio_c.specs.declared.handle.Handle.{Handle}
 
 -- the code of an error
 abbrev pub refusal_code : Refusal → ℕ

@@ -1,6 +1,6 @@
 //! Look-ups of strings in groups, hashed ahead.
-ghost use Rattle.std.specs.Prelude.{◌≡◌, ℕ, List, length, ⊤};
-ghost use Rattle.intaglio_c.specs.Cited.{AreAll, MayBeIn};
+ghost use Rattle.std.specs.Prelude.{◌≡◌};
+ghost use Rattle.intaglio_c.specs.Cited.{ℕ, List, length, ⊤, AreAll, MayBeIn};
 
 use intaglio_core::GROUP;
 use intaglio_frozen::ahead::{HashesAhead, look_ahead};

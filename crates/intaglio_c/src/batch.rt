@@ -1,6 +1,6 @@
 //! Batches, as C passes them: many strings in one list of bytes, with the end of each.
-ghost use Rattle.std.specs.Prelude.{◌≡◌, ◌-◌, ◌≤◌, ◌∷◌, true, length, get_or};
-ghost use Rattle.intaglio_c.specs.Cited.{are_ends, is_batch, pieces};
+ghost use Rattle.std.specs.Prelude.{◌≡◌, ◌-◌, ◌≤◌, ◌∷◌};
+ghost use Rattle.intaglio_c.specs.Cited.{true, length, get_or, are_ends, is_batch, pieces};
 
 use intaglio_frozen::StringList;
 use intaglio_records::part;
@@ -11,10 +11,7 @@ fn are_ends(size: usize, ends: &[usize]) -> bool
 {
     let mut start = 0;
     for &end in ends {
-        if end < start {
-            return false;
-        }
-        if size < end {
+        if end < start || size < end {
             return false;
         }
         start = end;

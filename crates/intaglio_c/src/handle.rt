@@ -1,6 +1,5 @@
 //! A handle of a table, as C holds it.
-ghost use Rattle.std.specs.Prelude.{◌≡◌, is_some};
-ghost use Rattle.std.specs.declared.option.Option.TheVariants.{None};
+ghost use Rattle.std.specs.Prelude.{◌≡◌, is_some, None};
 ghost use Rattle.intaglio_c.specs.Seen.{fault_in};
 
 use crate::any_table::AnyTable;
@@ -34,8 +33,7 @@ impl Handle {
 }
 
 impl Handle {
-    ghost use Rattle.intaglio_hash.specs.KeyedState.{initial_hasher};
-    ghost use Rattle.intaglio_c.specs.Handles.{MakesSized};
+    ghost use Rattle.intaglio_c.specs.Cited.{MakesSized, initial_hasher};
 
     // Puts a new table of a kind and a size into the handle. The earlier one is freed. For a number that is
     // no kind's it returns `NoKind`, and then, as after each error, the handle holds no table.

@@ -1,6 +1,6 @@
 //! The kinds of tables, and what each wants of the bytes that come in.
-ghost use Rattle.std.specs.Prelude.{◌≡◌, IfOk, IfErr, None, Some};
-ghost use Rattle.intaglio_c.specs.Cited.{broken, kind_of, utf8_fault, zero_fault};
+ghost use Rattle.std.specs.Prelude.{◌≡◌};
+ghost use Rattle.intaglio_c.specs.Cited.{IfOk, IfErr, None, Some, broken, kind_of, utf8_fault, zero_fault};
 
 use crate::refusal::Refusal;
 use intaglio_cstr::{CStr, CStrError};

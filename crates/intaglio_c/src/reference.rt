@@ -1,6 +1,6 @@
 //! What a file says of the dictionary that it is a part of, or that it belongs to, as C gets it.
-ghost use Rattle.std.specs.Prelude.{◌≡◌, map, IfOk};
-ghost use Rattle.intaglio_c.specs.Cited.{own_id, place_in, set_in};
+ghost use Rattle.std.specs.Prelude.{◌≡◌};
+ghost use Rattle.intaglio_c.specs.Cited.{map, IfOk, own_id, place_in, set_in};
 
 use intaglio_columns::DictionaryId;
 use intaglio_frozen::{Place, SetId};

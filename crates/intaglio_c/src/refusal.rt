@@ -1,6 +1,6 @@
 //! Errors and their codes, and results as C gets them.
-ghost use Rattle.std.specs.Prelude.{◌≡◌, Ok, Err};
-ghost use Rattle.intaglio_c.specs.Cited.{answer_code, mark_answer, refusal_code, room_answer, room_refusal, symbol_answer, IsWritten, column_refusal, write_refusal, freeze_refusal, frozen_refusal, NoMemory};
+ghost use Rattle.std.specs.Prelude.{◌≡◌};
+ghost use Rattle.intaglio_c.specs.Cited.{Ok, Err, answer_code, mark_answer, refusal_code, room_answer, room_refusal, symbol_answer, IsWritten, column_refusal, write_refusal, freeze_refusal, frozen_refusal, NoMemory};
 
 use intaglio_columns::{ColumnError, ColumnWriteError};
 use intaglio_core::{InternError, RoomError, StaleMark, Symbol};

@@ -1,6 +1,6 @@
 //! How C gets a content's bytes: their place, or a copy.
-ghost use Rattle.std.specs.Prelude.{◌≡◌, Some, length};
-ghost use Rattle.intaglio_c.specs.Cited.{Gives, filled};
+ghost use Rattle.std.specs.Prelude.{◌≡◌};
+ghost use Rattle.intaglio_c.specs.Cited.{Some, length, Gives, filled};
 
 use crate::refusal::Refusal;
 use std::ptr::from_ref;

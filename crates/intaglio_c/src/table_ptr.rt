@@ -1,8 +1,6 @@
 //! The pointer of a handle, and what it owns: a box as its pointer and its allocator.
-ghost use Rattle.std.specs.Prelude.{◌≡◌, IsSomeAnd, ⊤};
+ghost use Rattle.std.specs.Prelude.{◌≡◌, IsSomeAnd, ⊤, Option as Maybe, None, Some};
 ghost use Rattle.std.specs.Box.Ownership.{box_owns};
-ghost use Rattle.std.specs.declared.option.Option.{Option as Maybe};
-ghost use Rattle.std.specs.declared.option.Option.TheVariants.{None, Some};
 ghost use Rattle.intaglio_c.specs.declared.any_table.AnyTable.{AnyTable};
 ghost use Rattle.intaglio_c.specs.Owned.{ptr_owns, table_coded};
 
@@ -88,9 +86,8 @@ impl TablePtr {
 }
 
 impl TablePtr {
-    ghost use Rattle.std.specs.Prelude.{◌≡◌, IsSomeAnd, ⊤};
+    ghost use Rattle.std.specs.Prelude.{◌≡◌, IsSomeAnd, ⊤, Some};
     ghost use Rattle.std.specs.Borrow.{sem};
-    ghost use Rattle.std.specs.declared.option.Option.TheVariants.{Some};
     ghost use Rattle.intaglio_c.specs.Lent.{table_follows};
 
     // The table, lent.

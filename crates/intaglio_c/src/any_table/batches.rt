@@ -1,6 +1,6 @@
 //! Batches of strings.
-ghost use Rattle.std.specs.Prelude.{◌≡◌, length};
-ghost use Rattle.intaglio_c.specs.Cited.{CopiesEach, InternsAll, InternsOr, IsBegun, IsRolledBack, Absorbs, TakesStep, contents_of};
+ghost use Rattle.std.specs.Prelude.{◌≡◌};
+ghost use Rattle.intaglio_c.specs.Cited.{length, CopiesEach, InternsAll, InternsOr, IsBegun, IsRolledBack, Absorbs, TakesStep, contents_of};
 
 use super::AnyTable;
 use crate::batch::{Batch, is_batch};

@@ -1,6 +1,6 @@
 //! Strings as their bytes.
-ghost use Rattle.std.specs.Prelude.{◌≡◌, [], ◌∷◌, None, Some, IfOk, IfErr, slice_get, option_map};
-ghost use Rattle.intaglio_c.specs.Cited.{components, IsNumberIn, or_absent, found, IsHash, fault, keyed_hash, utf8_fault, IsFaultless, TakesStep, contents_of, look_up, seen, Interns, InternsStatic};
+ghost use Rattle.std.specs.Prelude.{◌≡◌, ◌∷◌};
+ghost use Rattle.intaglio_c.specs.Cited.{[], None, Some, IfOk, IfErr, slice_get, option_map, components, IsNumberIn, or_absent, found, IsHash, fault, keyed_hash, utf8_fault, IsFaultless, TakesStep, contents_of, look_up, seen, Interns, InternsStatic};
 
 use super::AnyTable;
 use crate::ahead::LookUps;

@@ -1,6 +1,6 @@
 //! Constructors, length and capacity: the calls that are the same for each kind.
-ghost use Rattle.std.specs.Prelude.{◌≡◌, ◌↔◌, Err, IfOk, ◌+◌, ◌≤◌, ◌^◌, length};
-ghost use Rattle.intaglio_c.specs.Cited.{empty_table, CapacityOverflow, IsOutside, most_of, new_table, room_of, seen, IsChanged, contents_of, Empties};
+ghost use Rattle.std.specs.Prelude.{◌≡◌, ◌↔◌, ◌+◌, ◌≤◌, ◌^◌};
+ghost use Rattle.intaglio_c.specs.Cited.{Err, IfOk, length, empty_table, CapacityOverflow, IsOutside, most_of, new_table, room_of, seen, IsChanged, contents_of, Empties};
 ghost use Rattle.intaglio_interner.specs.Change.{Reserves, Shrinks, TakesBack};
 
 use super::AnyTable;

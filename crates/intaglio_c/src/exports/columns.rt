@@ -1,7 +1,7 @@
 //! Calls on columns, which C passes as their bytes. Each call reads the header of the column again, and reads
 //! nothing outside the bytes.
-ghost use Rattle.std.specs.Prelude.{◌≡◌, ◌-◌, drop, false, length, min, slice_get};
-ghost use Rattle.intaglio_c.specs.Cited.{HasRows, IsColumn, codes, width_of, overlaid, rows_of, bytes_of, IsCodeOf, given, ChecksColumn, Counts, WritesColumn, ReadsSource, ReadsTarget};
+ghost use Rattle.std.specs.Prelude.{◌≡◌, ◌-◌};
+ghost use Rattle.intaglio_c.specs.Cited.{drop, false, length, min, slice_get, HasRows, IsColumn, codes, width_of, overlaid, rows_of, bytes_of, IsCodeOf, given, ChecksColumn, Counts, WritesColumn, ReadsSource, ReadsTarget};
 
 use crate::reference::Reference;
 use crate::refusal::{Refusal, code, done, failed};

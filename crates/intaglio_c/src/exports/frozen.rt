@@ -1,7 +1,7 @@
 //! Calls on frozen tables, which C passes as their bytes, and most with where their sections are. Nothing
 //! outside the bytes is read.
-ghost use Rattle.std.specs.Prelude.{◌≡◌, ◌↔◌, false, length, slice_get, IsTrue, Some, option_map};
-ghost use Rattle.intaglio_c.specs.Cited.{HasHeader, HasSections, IsFrozen, text_kind, kind, AreSectionsOf, IsCodeOf, given, Absorbs, Checks, FindsEachTrusted, FreezesHeld, ReadsSections, position_in, ChangesWithCode, Keeps, IdentifiesHeld, ReadsReference, place_in, single};
+ghost use Rattle.std.specs.Prelude.{◌≡◌, ◌↔◌};
+ghost use Rattle.intaglio_c.specs.Cited.{false, length, slice_get, IsTrue, Some, option_map, HasHeader, HasSections, IsFrozen, text_kind, kind, AreSectionsOf, IsCodeOf, given, Absorbs, Checks, FindsEachTrusted, FreezesHeld, ReadsSections, position_in, ChangesWithCode, Keeps, IdentifiesHeld, ReadsReference, place_in, single};
 ghost use Rattle.intaglio_frozen.specs.Layout.{strings};
 
 use crate::ahead::find_each;

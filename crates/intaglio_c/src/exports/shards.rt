@@ -1,7 +1,7 @@
 //! Dictionaries in shards: which shard a string belongs to, which is known from its bytes alone, and the sets
 //! of shards.
-ghost use Rattle.std.specs.Prelude.{◌≡◌, ◌<◌, map};
-ghost use Rattle.intaglio_c.specs.Cited.{set_of_merge, set_of_shards, shard_of, IsCodeOf, MakesSet, own_id, set_in};
+ghost use Rattle.std.specs.Prelude.{◌≡◌, ◌<◌};
+ghost use Rattle.intaglio_c.specs.Cited.{map, set_of_merge, set_of_shards, shard_of, IsCodeOf, MakesSet, own_id, set_in};
 
 use crate::reference::{Reference, ids_of, sets_of};
 use crate::refusal::{Refusal, code, done, failed};

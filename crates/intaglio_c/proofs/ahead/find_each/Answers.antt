@@ -1,29 +1,23 @@
 -- Each turn looks up one string more.
-use Rattle.std.specs.Prelude.{◌<◌}
-use Rattle.intaglio_c.proofs.Names.{rules, ◌∙◌, length, inr, arith}
-use Rattle.intaglio_frozen.proofs.HashedAhead.{all_first, first, more}
+use Rattle.intaglio_c.proofs.Names.{◌<◌, common_steps, rules, ◌∙◌, length, inr, arith, all_first, first_ahead, more}
 use Rattle.intaglio_c.proofs.ahead.find_each.Goals as goal
 
 pub find_number-requires : goal.find_number-requires
 find_number-requires g c = record {
   sound = c.requires.sound;
-  hash = (first (g.T.HashesAhead.is_hash c.args.table.now) (g.L.StringList.strings c.args.list.now)
-      c.look_ahead-used.new.hashes c.loop-i.i c.look_ahead-used.result c.string.result.now c.string.ensures
-      c.look_ahead-used.ensures.some c.look_ahead-used.ensures.left).0;
+  hash = (first_ahead (g.T.HashesAhead.is_hash c.args.table.now) (g.L.StringList.strings c.args.list.now) _ c.loop-i.i _ _
+      c.string.ensures c.look_ahead-used.ensures.some c.look_ahead-used.ensures.left).0;
 }
 
 pub loop-i-preserved : goal.loop-i-preserved
-loop-i-preserved g c = let strings = g.L.StringList.strings c.args.list.now in
-    let inside : c.loop-i.i < length c.loop-i.symbols =
+loop-i-preserved g c = let inside : c.loop-i.i < length c.loop-i.symbols =
     omega (arith, c.loop-i-test.true, c.loop-i.invariant.places) in record {
       places = search rules;
       room = c.look_ahead-used.ensures.places ∙ c.loop-i.invariant.room;
-      ahead = (first (g.T.HashesAhead.is_hash c.args.table.now) strings c.look_ahead-used.new.hashes c.loop-i.i
-          c.look_ahead-used.result c.string.result.now c.string.ensures c.look_ahead-used.ensures.some
+      ahead = (first_ahead (g.T.HashesAhead.is_hash c.args.table.now) (g.L.StringList.strings c.args.list.now) _ c.loop-i.i _ _
+          c.string.ensures c.look_ahead-used.ensures.some
           c.look_ahead-used.ensures.left).1;
-      written = more (g.T.LookUps.may_be c.args.table.now) strings c.loop-i.symbols c.loop-i.i
-          c.find_number.result c.string.result.now c.string.ensures inside c.find_number.ensures
-          c.loop-i.invariant.written;
+      written = grind (arith, common_steps, more);
     }
 
 pub returns : goal.returns

@@ -1,6 +1,4 @@
-use Rattle.std.specs.Prelude.{◌≡◌}
-use Rattle.intaglio_c.proofs.Names.{length, take, drop, AreFirst}
-use Rattle.intaglio_frozen.proofs.HashedAhead.{Continues}
+use Rattle.intaglio_c.proofs.Names.{◌≡◌, length, take, drop, AreFirst, Continues}
 use Rattle.intaglio_c.proofs.ahead.find_each.Given as goal
 
 abbrev pub invariant-loop-i : goal.invariant-loop-i

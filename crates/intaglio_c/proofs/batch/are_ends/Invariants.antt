@@ -1,5 +1,4 @@
-use Rattle.std.specs.Prelude.{◌≡◌}
-use Rattle.intaglio_c.proofs.Names.{drop, are_ends}
+use Rattle.intaglio_c.proofs.Names.{◌≡◌, drop, are_ends}
 use Rattle.intaglio_c.proofs.batch.are_ends.Given as goal
 
 abbrev pub invariant-loop-end : goal.invariant-loop-end

@@ -1,5 +1,4 @@
-use Rattle.std.specs.Prelude.{◌≡◌}
-use Rattle.intaglio_c.proofs.Names.{drop, length, take, seen}
+use Rattle.intaglio_c.proofs.Names.{◌≡◌, drop, length, take, seen}
 use Rattle.intaglio_c.proofs.Batches.{IsCopied}
 use Rattle.intaglio_c.proofs.any_table.AnyTable.copy_each.Given as goal
 

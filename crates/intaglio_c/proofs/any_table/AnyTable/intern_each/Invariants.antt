@@ -1,5 +1,4 @@
-use Rattle.std.specs.Prelude.{◌≡◌}
-use Rattle.intaglio_c.proofs.Names.{length, take, drop, AreFirst, IsHash, seen}
+use Rattle.intaglio_c.proofs.Names.{◌≡◌, length, take, drop, AreFirst, IsHash, seen}
 use Rattle.intaglio_c.proofs.Batches.{Begins}
 use Rattle.intaglio_c.proofs.any_table.AnyTable.intern_each.Given as goal
 

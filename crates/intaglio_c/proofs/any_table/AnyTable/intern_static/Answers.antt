@@ -1,13 +1,12 @@
 -- An interning of static bytes in each store.
-use Rattle.intaglio_c.proofs.Names.{refl, ap, components, bytes_content_bytes, path_content_bytes, copies_static, seen}
+use Rattle.intaglio_c.proofs.Names.{refl, ap, components, bytes_content_bytes, path_content_bytes, copies_static, seen, Owned, Path}
 use Rattle.intaglio_content.specs.declared.content_of.ContentOf.TheVariants as content
-use Rattle.intaglio_c.specs.declared.kind.Kind.TheVariants as kind
 use Rattle.intaglio_c.proofs.AsBytes.{interned, moved}
 use Rattle.intaglio_c.proofs.any_table.AnyTable.intern_static.Goals as goal
 
 pub returns-in-Owned : goal.returns-in-Owned
 returns-in-Owned c = record {
-  step = interned (kind.Owned c.in-Owned.field-0) bytes_content_bytes _ (λ _. refl) copies_static _ _
+  step = interned (Owned c.in-Owned.field-0) bytes_content_bytes _ (λ _. refl) copies_static _ _
       _ _ c.intern.new.self c.args.bytes.now _ _ _ (ap seen c.in-Owned.is) c.intern.ensures.hasher
       c.in_ok-check.ensures.faultless refl
       (moved bytes_content_bytes (content.Borrowed c.args.bytes) _ _ refl) c.intern.ensures.step
@@ -17,7 +16,7 @@ returns-in-Owned c = record {
 pub returns-in-Path : goal.returns-in-Path
 returns-in-Path c = record {
   step =
-      interned kind.Path path_content_bytes _ (λ _. refl) copies_static _ _ _ _ c.intern-in-Path.new.self
+      interned Path path_content_bytes _ (λ _. refl) copies_static _ _ _ _ c.intern-in-Path.new.self
       c.args.bytes.now _ _ _ (ap seen c.in-Path.is) c.intern-in-Path.ensures.hasher
       c.in_ok-check.ensures.faultless (ap components c.text_in.ensures.text)
       (moved path_content_bytes (content.Borrowed c.text_in.result) _ _ c.text_in.ensures.text)

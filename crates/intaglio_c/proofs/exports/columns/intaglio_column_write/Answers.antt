@@ -1,6 +1,5 @@
 -- The column that was made.
-use Rattle.intaglio_c.proofs.Names.{ℕ, List, inl, subst}
-use Rattle.intaglio_c.specs.Handles.{Gives}
+use Rattle.intaglio_c.proofs.Names.{inl}
 use Rattle.intaglio_c.proofs.exports.columns.intaglio_column_write.Goals as goal
 
 pub returns : goal.returns
@@ -18,9 +17,7 @@ returns c =
             shards = made.header.shards;
             codes = made.codes;
           },
-          subst (λ (bs : List ℕ).
-              Gives bs c.args.buffer.now c.give.new.buffer c.give.new.len c.give.result)
-              c.deref.ensures.value c.give.ensures.given,
+          rw c.deref.ensures.value at c.give.ensures.given,
         ),
       );
     }

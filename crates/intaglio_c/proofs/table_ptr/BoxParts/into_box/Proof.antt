@@ -1,10 +1,8 @@
 -- The callee makes a box again of its pointer and its allocator, and of what the box owned.
-use Rattle.std.specs.Prelude.{◌≡◌, ◌∷◌, ◌++◌}
-use Rattle.intaglio_c.proofs.Walks.{IsT, refl, sym, ap, subst, List, [], inst_fn, a_type, dcons, dnil, Val, has_ty, WT, ftrue, flft, id⊢, emp, WpFn, ‵, raw, ◌⊛◌, some, later, prop, at_ret, ◌$◌, ◌∵◌, !, qed, done, move, keep, drop, split, join, fsplit, fjoin, regoal, rewrite, suffices, pick, await, use0, use1, feq_i, enter, stop, fld, of_opd, no_more, and_then, first, blocks, exec, returns, alloc_all, pass_all, free_all, look_at, get, get_in, sets, lands_last, env, sub, whole, ◌⊑◌, fact, fact_i, tables, no, param, bounded, layout, param_laws, rawptr_Lawful, ptr_val, plain, nothing, only, heard, calls_at_last, Lasts, lasts, triple_of, framed, Stays, walk_of, says, stay_dropped, ends_at, Goes-blank, proved_at, box_of, word_fits, pair_out, pair_in}
+use Rattle.intaglio_c.proofs.Walks.{◌≡◌, ◌∷◌, ◌++◌, IsT, refl, sym, ap, subst, List, [], inst_fn, a_type, dcons, dnil, Val, has_ty, WT, ftrue, flft, id⊢, emp, WpFn, ‵, raw, ◌⊛◌, some, later, prop, at_ret, ◌$◌, ◌∵◌, !, qed, done, move, keep, drop, split, join, fsplit, fjoin, regoal, rewrite, suffices, pick, await, use0, use1, feq_i, enter, stop, fld, of_opd, no_more, and_then, first, blocks, exec, returns, alloc_all, pass_all, free_all, look_at, get, get_in, sets, lands_last, env, sub, whole, ◌⊑◌, fact, fact_i, tables, no, param, bounded, layout, param_laws, rawptr_Lawful, ptr_val, plain, nothing, only, heard, calls_at_last, Lasts, lasts, triple_of, framed, Stays, walk_of, says, stay_dropped, ends_at, Goes-blank, proved_at, box_of, word_fits, pair_out, pair_in, parts_of}
 use Rattle.std.below.core.proofs.alloc.Shapes.{after}
 use Rattle.std.specs.contracts.boxed.Box.from_raw as callee
 use Rattle.std.proofs.boxed.Box.from_raw.Met as callee_met
-use Rattle.intaglio_c.specs.contracts.table_ptr.BoxParts.{the_row as parts_of}
 use Rattle.intaglio_c.specs.contracts.table_ptr.BoxParts.into_box as f
 use Rattle.intaglio_c.proofs.table_ptr.BoxParts.into_box.Statement.{statement}
 use Rattle.intaglio_c.proofs.table_ptr.BoxParts.into_box.Code as code

@@ -1,11 +1,9 @@
 -- A box is taken apart: the callee hands out its pointer and its allocator, and what the box owned.
-use Rattle.std.specs.Prelude.{◌≡◌, ◌∷◌, ◌++◌}
-use Rattle.intaglio_c.proofs.Walks.{refl, sym, ap, List, [], inst_fn, a_type, dcons, dnil, Val, ftrue, flft, id⊢, emp, WpFn, ‵, raw, ◌⊛◌, some, later, prop, ◌$◌, ◌∵◌, !, qed, done, move, keep, drop, split, join, fsplit, fjoin, regoal, rewrite, suffices, pick, await, use0, use1, enter, stop, fld, of_opd, no_more, and_then, returns, alloc_all, pass_all, free_all, look_at, get, get_in, sets, lands_as, agg, sub, whole, ◌⊑◌, fact, fact_i, tables, no, param, bounded, param_laws, Ptr, RawPtr, rawptr_Lawful, plain, nothing, only, heard, calls_at, Lasts, lasts, triple_of, framed, Stays, walk_of, says, stay_dropped, ends_at, Goes-blank, proved_at, box_of, word, word_fits, pair_out, pair_in}
+use Rattle.intaglio_c.proofs.Walks.{◌≡◌, ◌∷◌, ◌++◌, refl, sym, ap, List, [], inst_fn, a_type, dcons, dnil, Val, ftrue, flft, id⊢, emp, WpFn, ‵, raw, ◌⊛◌, some, later, prop, ◌$◌, ◌∵◌, !, qed, done, move, keep, drop, split, join, fsplit, fjoin, regoal, rewrite, suffices, pick, await, use0, use1, enter, stop, fld, of_opd, no_more, and_then, returns, alloc_all, pass_all, free_all, look_at, get, get_in, sets, lands_as, agg, sub, whole, ◌⊑◌, fact, fact_i, tables, no, param, bounded, param_laws, Ptr, RawPtr, rawptr_Lawful, plain, nothing, only, heard, calls_at, Lasts, lasts, triple_of, framed, Stays, walk_of, says, stay_dropped, ends_at, Goes-blank, proved_at, box_of, word, word_fits, pair_out, pair_in, parts_of}
 use denote.Struct.Tuple.{Tuple}
 use Rattle.std.specs.Box.Ownership.{box_owns}
 use Rattle.std.specs.contracts.boxed.Box.into_raw_with_allocator as callee
 use Rattle.std.proofs.boxed.Box.into_raw_with_allocator.Met as callee_met
-use Rattle.intaglio_c.specs.contracts.table_ptr.BoxParts.{the_row as parts_of}
 use Rattle.intaglio_c.specs.contracts.table_ptr.BoxParts.of as f
 use Rattle.intaglio_c.proofs.table_ptr.BoxParts.of.Statement.{statement}
 use Rattle.intaglio_c.proofs.table_ptr.BoxParts.of.Code as code

@@ -1,16 +1,12 @@
 -- A null pointer owns nothing.
-use Rattle.std.specs.Prelude.{◌∷◌}
-use Rattle.intaglio_c.proofs.Walks.{refl, [], lit<, ftrue, ‵, ◌⊛◌, ◌$◌, ◌∵◌, !, qed, done, move, keep, split, join, fjoin, suffices, enter, of_opd, lit, no_more, and_then, returns, alloc_all, pass_all, free_all, look_at, get, sets, agg, yes, null_ptr, plain, nothing, Stays, walk_of, says, stay_dropped, Goes-dropped, ends_at, proved, allocator, lowers, None, word, pair_in}
-use Rattle.intaglio_c.specs.contracts.table_ptr.TablePtr.{the_row as table_ptr}
+use Rattle.intaglio_c.proofs.Walks.{◌∷◌, refl, [], lit<, ftrue, ‵, ◌⊛◌, ◌$◌, ◌∵◌, !, qed, done, move, keep, split, join, fjoin, suffices, enter, of_opd, lit, no_more, and_then, returns, alloc_all, pass_all, free_all, look_at, get, sets, agg, yes, null_ptr, plain, nothing, Stays, walk_of, says, stay_dropped, Goes-dropped, ends_at, proved, allocator, lowers, None, word, pair_in, table_ptr}
 use Rattle.intaglio_c.specs.contracts.table_ptr.TablePtr.none as f
 use Rattle.intaglio_c.proofs.table_ptr.TablePtr.none.Statement.{statement}
 use Rattle.intaglio_c.proofs.table_ptr.TablePtr.none.Code as code
 
-abbrev stayed : Stays f.ended.signature.params f.ended.kept
-stayed = (stay_dropped _ yes, tt)
-
 pub none_spec : {M : Type 1} → statement M
-none_spec 𝓤 𝓛 𝓜 𝓡 wired = let c = f.clauses 𝓛 𝓜.mem 𝓡.returns in let W = walk_of 𝓛 f.ended stayed c in
+none_spec 𝓤 𝓛 𝓜 𝓡 wired =
+    let stayed : Stays f.ended.signature.params f.ended.kept = (stay_dropped _ yes, tt) in let c = f.clauses 𝓛 𝓜.mem 𝓡.returns in let W = walk_of 𝓛 f.ended stayed c in
     proved 𝓛 f.ended stayed c 𝓜 𝓡 (Goes-dropped 𝓛 0 (plain (λ _. allocator)) yes (λ κs x w. refl), tt)
     f.Key.name code.function (code.unfolded 𝓤 𝓛.H 𝓜 𝓡 wired)
     (λ κs. ((λ a. lowers.lowered a ∷ []), tt)) (λ κs. (lowers.val_is, tt)) (λ κs qs bounds args g are.

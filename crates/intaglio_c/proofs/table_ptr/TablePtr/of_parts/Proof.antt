@@ -1,18 +1,12 @@
 -- The parts of a box, behind a pointer that says no type.
-use Rattle.std.specs.Prelude.{◌∷◌, ◌++◌}
-use Rattle.intaglio_c.proofs.Walks.{refl, List, [], Val, ftrue, WpFn, ‵, ◌⊛◌, prop, ◌$◌, ◌∵◌, !, qed, done, move, keep, split, join, fsplit, fjoin, regoal, suffices, enter, stop, fld, of_opd, no_more, and_then, returns, alloc_all, pass_all, free_all, look_at, get, get_in, sets, agg, sub, whole, tables, rawptr_Lawful, plain, nothing, Stays, walk_of, says, stay_dropped, ends_at, Goes-blank, proved_at, allocator, the_row_laws, ghosts, Some, word, word_fits, pair_out, pair_in}
-use Rattle.intaglio_c.specs.contracts.any_table.AnyTable.{the_row as any_table}
-use Rattle.intaglio_c.specs.contracts.table_ptr.BoxParts.{the_row as parts_of}
-use Rattle.intaglio_c.specs.contracts.table_ptr.TablePtr.{the_row as table_ptr}
+use Rattle.intaglio_c.proofs.Walks.{◌∷◌, ◌++◌, refl, List, [], Val, ftrue, WpFn, ‵, ◌⊛◌, prop, ◌$◌, ◌∵◌, !, qed, done, move, keep, split, join, fsplit, fjoin, regoal, suffices, enter, stop, fld, of_opd, no_more, and_then, returns, alloc_all, pass_all, free_all, look_at, get, get_in, sets, agg, sub, whole, tables, rawptr_Lawful, plain, nothing, Stays, walk_of, says, stay_dropped, ends_at, Goes-blank, proved_at, allocator, the_row_laws, ghosts, Some, word, word_fits, pair_out, pair_in, any_table, parts_of, table_ptr}
 use Rattle.intaglio_c.specs.contracts.table_ptr.TablePtr.of_parts as f
 use Rattle.intaglio_c.proofs.table_ptr.TablePtr.of_parts.Statement.{statement}
 use Rattle.intaglio_c.proofs.table_ptr.TablePtr.of_parts.Code as code
 
-abbrev stayed : Stays f.ended.signature.params f.ended.kept
-stayed = (stay_dropped _ f.ended.kept.0, tt)
-
 pub of_parts_spec : {M : Type 1} → statement M
 of_parts_spec 𝓤 𝓛 𝓜 𝓡 wired =
+    let stayed : Stays f.ended.signature.params f.ended.kept = (stay_dropped _ f.ended.kept.0, tt) in
     let c = f.clauses 𝓛 𝓜.mem 𝓡.returns in let W = walk_of 𝓛 f.ended stayed c in let 𝓣 =
     tables 𝓤 𝓛.H 𝓜 𝓡 𝓡.env in let parts = parts_of any_table allocator ghosts in
     proved_at 𝓛 f.ended stayed c 𝓜 𝓡 (Goes-blank 𝓛 0 (plain (λ _. parts)) f.ended.kept.0 (λ κs x w. tt), tt)

@@ -1,6 +1,5 @@
 -- The table behind the pointer, which a `&mut` to a `TablePtr` lends. The pointer itself isn't written.
-use Rattle.std.specs.Prelude.{◌∷◌, ◌++◌}
-use Rattle.intaglio_c.proofs.Walks.{there, refl, sym, List, [], named, Val, vptr, Fml, GName, ftrue, flft, fsep, ent, sep, id⊢, WpFn, sem, ‵, raw, ◌⊛◌, some, later, prop, at_ret, ◌$◌, ◌∵◌, !, qed, done, move, keep, use1, split, join, await, pick, fsplit, fsplit3, fjoin, fpack, feq_l, regoal, rewrite, suffices, frame, group, whole, sub, look_in, enter, load, stop, fld, of_opd, addr, first, blocks, exec, returns, alloc_all, pass_all, free_all, look_at, get, through, sets, sets_last, env, fact, tables, no, Ptr, lies_at, in_a_block, plain, nothing, heard, opens, Stays, walk_of, says, stay_dropped, Goes-spent_ref, ends_at, the_row_laws, proved_at, IsSomeAnd, ⊤, allocator, ghosts, Option, word, pair_out, pair_in}
+use Rattle.intaglio_c.proofs.Walks.{◌∷◌, ◌++◌, there, refl, sym, List, [], named, Val, vptr, Fml, GName, ftrue, flft, fsep, ent, sep, id⊢, WpFn, sem, ‵, raw, ◌⊛◌, some, later, prop, at_ret, ◌$◌, ◌∵◌, !, qed, done, move, keep, use1, split, join, await, pick, fsplit, fsplit3, fjoin, fpack, feq_l, regoal, rewrite, suffices, frame, group, whole, sub, look_in, enter, load, stop, fld, of_opd, addr, first, blocks, exec, returns, alloc_all, pass_all, free_all, look_at, get, through, sets, sets_last, env, fact, tables, no, Ptr, lies_at, in_a_block, plain, nothing, heard, opens, Stays, walk_of, says, stay_dropped, Goes-spent_ref, ends_at, the_row_laws, proved_at, IsSomeAnd, ⊤, allocator, ghosts, Option, word, pair_out, pair_in, ptr_owns, any_table, table_ptr}
 use Prim.Native.Nat.{ℕ}
 use mir.Raw.{raw as bare}
 use base.Fraction.{full_share}
@@ -9,15 +8,9 @@ use denote.Memory.{part_at, mem, cell_at, part_of, lone}
 use denote.Ref.{MutRef}
 use Rattle.std.proofs.VecSteps.Shapes.{after}
 use Rattle.intaglio_c.specs.Lent.{with_table}
-use Rattle.intaglio_c.specs.Owned.{ptr_owns}
-use Rattle.intaglio_c.specs.contracts.any_table.AnyTable.{the_row as any_table}
-use Rattle.intaglio_c.specs.contracts.table_ptr.TablePtr.{the_row as table_ptr}
 use Rattle.intaglio_c.specs.contracts.table_ptr.TablePtr.table_mut as f
 use Rattle.intaglio_c.proofs.table_ptr.TablePtr.table_mut.Statement.{statement}
 use Rattle.intaglio_c.proofs.table_ptr.TablePtr.table_mut.Code as code
-
-abbrev stayed : Stays f.ended.signature.params f.ended.kept
-stayed = (stay_dropped _ no, tt)
 
 -- all of a `TablePtr` at a place but its table
 abbrev Rest : table_ptr.Denot → Val → ℕ → ℕ → Fml
@@ -27,6 +20,7 @@ Rest d h b o = fsep (fsep (ghosts.dealloc_token d.alloc (bare (lone any_table.mi
 pub table_mut_spec : {M : Type 1} → statement M
 unfolding part_of
 table_mut_spec 𝓤 𝓛 𝓜 𝓡 wired =
+    let stayed : Stays f.ended.signature.params f.ended.kept = (stay_dropped _ no, tt) in
     let c = f.clauses 𝓛 𝓜.mem 𝓡.returns in let W = walk_of 𝓛 f.ended stayed c in let 𝓣 =
     tables 𝓤 𝓛.H 𝓜 𝓡 𝓡.env in
     proved_at 𝓛 f.ended stayed c 𝓜 𝓡 (Goes-spent_ref 𝓛 1 (0 ∷ []) tt (plain (λ _. table_ptr)), tt)
