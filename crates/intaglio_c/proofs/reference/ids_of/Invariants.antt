@@ -1,5 +1,6 @@
 -- The identities so far.
-use Rattle.intaglio_c.specs.Cited.{◌≡◌, map, take, own_id}
+use Rattle.std.proofs.Common.{◌≡◌, map, take}
+use Rattle.intaglio_c.specs.Cited.{own_id}
 use Rattle.intaglio_c.proofs.reference.ids_of.Given as goal
 
 abbrev pub invariant-loop-one : goal.invariant-loop-one

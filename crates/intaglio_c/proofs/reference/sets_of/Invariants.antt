@@ -1,5 +1,6 @@
 -- The sets so far.
-use Rattle.intaglio_c.specs.Cited.{◌≡◌, map, take, set_in}
+use Rattle.std.proofs.Common.{◌≡◌, map, take}
+use Rattle.intaglio_c.specs.Cited.{set_in}
 use Rattle.intaglio_c.proofs.reference.sets_of.Given as goal
 
 abbrev pub invariant-loop-one : goal.invariant-loop-one
