@@ -188,7 +188,7 @@ def file_of(crate, function, pairs):
 
 
 def edit_of(crate, path, function, text):
-    """The edit of a function that a block of a file of mutants describes. A line `file:` has its file, if that can't be told without."""
+    """The edit of a function that a block of a file of mutants describes. A line `file:` has its file, if it can't be told."""
 
     def line(word):
         return (re.search(rf"^{word}: (.*)$", text, re.M) or ["", ""])[1]
