@@ -1,13 +1,14 @@
 //! Calls of a table by borrowed forms, and what borrows from it, whose results are text.
 use super::printed::{Shown, inserted_text, numbered, reply_text, spelled, symbols_text, word};
 use super::steps::walked;
+use super::table::Table;
 use crate::support::builders::HasherCount;
 use crate::support::kinds::{BStrKind, BytesKind, CStrKind, Host, OsStrKind, PathKind, StrKind};
 use crate::support::replies::interned;
 use intaglio::packed::Packed;
 use intaglio::{
-    Content, ContentOf, Indexed, KindForm, KindOwned, Lends, LookedUpIn, Reply, SoughtIn, Symbol,
-    Table, TableOver, Work, get_or_intern_all,
+    Content, ContentOf, Indexed, KindForm, Lends, LookedUpIn, Reply, SoughtIn, Symbol, TableOver,
+    Work, get_or_intern_all,
 };
 
 /// A call by borrowed forms, or one that borrows what is stored.
@@ -42,257 +43,94 @@ pub enum Ask {
 }
 
 /// The table of owned contents of a kind.
-pub type OwnedTable<K, S> = Table<ContentOf<K>, S>;
+pub type OwnedTable<K, S> = intaglio::Table<ContentOf<K>, S>;
 
 /// The table of a kind in one buffer.
 pub type PackedTable<K, S> = TableOver<Packed<K>, S>;
 
-/// A kind whose tables are asked. Its impls, and those of [`PackedKind`], alone name tables of one kind,
-/// since the prover takes seconds wherever one of them is passed to a call of any table.
-pub trait OwnedKind: KindOwned {
-    /// Whether contents are compared as paths.
-    const ARE_PATHS: bool;
-
-    /// Makes the call, and returns its result as text.
-    fn ask_owned<R: Host, S: HasherCount>(
-        rt: &R,
-        table: &mut OwnedTable<Self, S>,
-        contents: &[ContentOf<Self>],
-        steps: &str,
-        ask: Ask,
-    ) -> String;
-}
-
-/// The same of tables in one buffer.
-pub trait PackedKind: KindOwned {
-    /// Makes the call, and returns its result as text.
-    fn ask_packed<R: Host, S: HasherCount>(
-        rt: &R,
-        table: &mut PackedTable<Self, S>,
-        contents: &[ContentOf<Self>],
-        steps: &str,
-        ask: Ask,
-    ) -> String;
-}
-
-impl OwnedKind for StrKind {
-    const ARE_PATHS: bool = false;
-
-    fn ask_owned<R: Host, S: HasherCount>(
-        rt: &R,
-        table: &mut OwnedTable<StrKind, S>,
-        contents: &[ContentOf<StrKind>],
-        steps: &str,
-        ask: Ask,
-    ) -> String {
-        match ask {
-            Ask::Forms => walked(rt, table.strings(), steps),
-            Ask::GetInterned => match table.get_interned(first(rt, contents).form()) {
-                None => word(rt, "none"),
-                Some((symbol, form)) => numbered(rt, symbol, form.shown()),
+// What a table returns that yields its forms by the last of these.
+macro_rules! answer_or {
+    ($rt:ident, $table:expr, $contents:ident, $steps:ident, $ask:ident, $forms:ident) => {
+        match $ask {
+            Ask::Forms => walked($rt, $table.$forms(), $steps),
+            Ask::GetInterned => match $table.get_interned(first($rt, $contents).form()) {
+                None => word($rt, "none"),
+                Some((symbol, form)) => numbered($rt, symbol, form.shown()),
             },
-            _ => answer(rt, table, contents, steps, ask),
+            _ => answer($rt, $table, $contents, $steps, $ask),
         }
+    };
+}
+
+// The prover takes seconds wherever a table of one kind is passed to a call of any table. So these impls alone
+// name tables of one kind.
+impl<S: HasherCount> Table for OwnedTable<StrKind, S> {
+    fn ask<R: Host>(&mut self, rt: &R, contents: &[Self::Item], steps: &str, ask: Ask) -> String {
+        answer_or!(rt, self, contents, steps, ask, strings)
     }
 }
 
-impl OwnedKind for OsStrKind {
-    const ARE_PATHS: bool = false;
-
-    fn ask_owned<R: Host, S: HasherCount>(
-        rt: &R,
-        table: &mut OwnedTable<OsStrKind, S>,
-        contents: &[ContentOf<OsStrKind>],
-        steps: &str,
-        ask: Ask,
-    ) -> String {
-        match ask {
-            Ask::Forms => walked(rt, table.os_strings(), steps),
-            Ask::GetInterned => match table.get_interned(first(rt, contents).form()) {
-                None => word(rt, "none"),
-                Some((symbol, form)) => numbered(rt, symbol, form.shown()),
-            },
-            _ => answer(rt, table, contents, steps, ask),
-        }
+impl<S: HasherCount> Table for OwnedTable<OsStrKind, S> {
+    fn ask<R: Host>(&mut self, rt: &R, contents: &[Self::Item], steps: &str, ask: Ask) -> String {
+        answer_or!(rt, self, contents, steps, ask, os_strings)
     }
 }
 
-impl OwnedKind for BytesKind {
-    const ARE_PATHS: bool = false;
-
-    fn ask_owned<R: Host, S: HasherCount>(
-        rt: &R,
-        table: &mut OwnedTable<BytesKind, S>,
-        contents: &[ContentOf<BytesKind>],
-        steps: &str,
-        ask: Ask,
-    ) -> String {
-        match ask {
-            Ask::Forms => walked(rt, table.bytestrings(), steps),
-            Ask::GetInterned => match table.get_interned(first(rt, contents).form()) {
-                None => word(rt, "none"),
-                Some((symbol, form)) => numbered(rt, symbol, form.shown()),
-            },
-            _ => answer(rt, table, contents, steps, ask),
-        }
+impl<S: HasherCount> Table for OwnedTable<BytesKind, S> {
+    fn ask<R: Host>(&mut self, rt: &R, contents: &[Self::Item], steps: &str, ask: Ask) -> String {
+        answer_or!(rt, self, contents, steps, ask, bytestrings)
     }
 }
 
-impl OwnedKind for BStrKind {
-    const ARE_PATHS: bool = false;
-
-    fn ask_owned<R: Host, S: HasherCount>(
-        rt: &R,
-        table: &mut OwnedTable<BStrKind, S>,
-        contents: &[ContentOf<BStrKind>],
-        steps: &str,
-        ask: Ask,
-    ) -> String {
-        match ask {
-            Ask::Forms => walked(rt, table.bstrings(), steps),
-            Ask::GetInterned => match table.get_interned(first(rt, contents).form()) {
-                None => word(rt, "none"),
-                Some((symbol, form)) => numbered(rt, symbol, form.shown()),
-            },
-            _ => answer(rt, table, contents, steps, ask),
-        }
+impl<S: HasherCount> Table for OwnedTable<BStrKind, S> {
+    fn ask<R: Host>(&mut self, rt: &R, contents: &[Self::Item], steps: &str, ask: Ask) -> String {
+        answer_or!(rt, self, contents, steps, ask, bstrings)
     }
 }
 
-impl OwnedKind for CStrKind {
-    const ARE_PATHS: bool = false;
-
-    fn ask_owned<R: Host, S: HasherCount>(
-        rt: &R,
-        table: &mut OwnedTable<CStrKind, S>,
-        contents: &[ContentOf<CStrKind>],
-        steps: &str,
-        ask: Ask,
-    ) -> String {
-        match ask {
-            Ask::Forms => walked(rt, table.c_strings(), steps),
-            Ask::GetInterned => match table.get_interned(first(rt, contents).form()) {
-                None => word(rt, "none"),
-                Some((symbol, form)) => numbered(rt, symbol, form.shown()),
-            },
-            _ => answer(rt, table, contents, steps, ask),
-        }
+impl<S: HasherCount> Table for OwnedTable<CStrKind, S> {
+    fn ask<R: Host>(&mut self, rt: &R, contents: &[Self::Item], steps: &str, ask: Ask) -> String {
+        answer_or!(rt, self, contents, steps, ask, c_strings)
     }
 }
 
-impl OwnedKind for PathKind {
+impl<S: HasherCount> Table for OwnedTable<PathKind, S> {
     const ARE_PATHS: bool = true;
 
-    fn ask_owned<R: Host, S: HasherCount>(
-        rt: &R,
-        table: &mut OwnedTable<PathKind, S>,
-        contents: &[ContentOf<PathKind>],
-        steps: &str,
-        ask: Ask,
-    ) -> String {
-        match ask {
-            Ask::Forms => walked(rt, table.paths(), steps),
-            Ask::GetInterned => match table.get_interned(first(rt, contents).form()) {
-                None => word(rt, "none"),
-                Some((symbol, form)) => numbered(rt, symbol, form.shown()),
-            },
-            _ => answer(rt, table, contents, steps, ask),
-        }
+    fn ask<R: Host>(&mut self, rt: &R, contents: &[Self::Item], steps: &str, ask: Ask) -> String {
+        answer_or!(rt, self, contents, steps, ask, paths)
     }
 }
 
-impl PackedKind for StrKind {
-    fn ask_packed<R: Host, S: HasherCount>(
-        rt: &R,
-        table: &mut PackedTable<StrKind, S>,
-        contents: &[ContentOf<StrKind>],
-        steps: &str,
-        ask: Ask,
-    ) -> String {
-        match ask {
-            Ask::Forms => walked(rt, table.strings(), steps),
-            Ask::GetInterned => match table.get_interned(first(rt, contents).form()) {
-                None => word(rt, "none"),
-                Some((symbol, form)) => numbered(rt, symbol, form.shown()),
-            },
-            _ => answer(rt, table, contents, steps, ask),
-        }
+impl<S: HasherCount> Table for PackedTable<StrKind, S> {
+    fn ask<R: Host>(&mut self, rt: &R, contents: &[Self::Item], steps: &str, ask: Ask) -> String {
+        answer_or!(rt, self, contents, steps, ask, strings)
     }
 }
 
-impl PackedKind for OsStrKind {
-    fn ask_packed<R: Host, S: HasherCount>(
-        rt: &R,
-        table: &mut PackedTable<OsStrKind, S>,
-        contents: &[ContentOf<OsStrKind>],
-        steps: &str,
-        ask: Ask,
-    ) -> String {
-        match ask {
-            Ask::Forms => walked(rt, table.os_strings(), steps),
-            Ask::GetInterned => match table.get_interned(first(rt, contents).form()) {
-                None => word(rt, "none"),
-                Some((symbol, form)) => numbered(rt, symbol, form.shown()),
-            },
-            _ => answer(rt, table, contents, steps, ask),
-        }
+impl<S: HasherCount> Table for PackedTable<OsStrKind, S> {
+    fn ask<R: Host>(&mut self, rt: &R, contents: &[Self::Item], steps: &str, ask: Ask) -> String {
+        answer_or!(rt, self, contents, steps, ask, os_strings)
     }
 }
 
-impl PackedKind for BytesKind {
-    fn ask_packed<R: Host, S: HasherCount>(
-        rt: &R,
-        table: &mut PackedTable<BytesKind, S>,
-        contents: &[ContentOf<BytesKind>],
-        steps: &str,
-        ask: Ask,
-    ) -> String {
-        match ask {
-            Ask::Forms => walked(rt, table.bytestrings(), steps),
-            Ask::GetInterned => match table.get_interned(first(rt, contents).form()) {
-                None => word(rt, "none"),
-                Some((symbol, form)) => numbered(rt, symbol, form.shown()),
-            },
-            _ => answer(rt, table, contents, steps, ask),
-        }
+impl<S: HasherCount> Table for PackedTable<BytesKind, S> {
+    fn ask<R: Host>(&mut self, rt: &R, contents: &[Self::Item], steps: &str, ask: Ask) -> String {
+        answer_or!(rt, self, contents, steps, ask, bytestrings)
     }
 }
 
-impl PackedKind for BStrKind {
-    fn ask_packed<R: Host, S: HasherCount>(
-        rt: &R,
-        table: &mut PackedTable<BStrKind, S>,
-        contents: &[ContentOf<BStrKind>],
-        steps: &str,
-        ask: Ask,
-    ) -> String {
-        match ask {
-            Ask::Forms => walked(rt, table.bstrings(), steps),
-            Ask::GetInterned => match table.get_interned(first(rt, contents).form()) {
-                None => word(rt, "none"),
-                Some((symbol, form)) => numbered(rt, symbol, form.shown()),
-            },
-            _ => answer(rt, table, contents, steps, ask),
-        }
+impl<S: HasherCount> Table for PackedTable<BStrKind, S> {
+    fn ask<R: Host>(&mut self, rt: &R, contents: &[Self::Item], steps: &str, ask: Ask) -> String {
+        answer_or!(rt, self, contents, steps, ask, bstrings)
     }
 }
 
-impl PackedKind for PathKind {
-    fn ask_packed<R: Host, S: HasherCount>(
-        rt: &R,
-        table: &mut PackedTable<PathKind, S>,
-        contents: &[ContentOf<PathKind>],
-        steps: &str,
-        ask: Ask,
-    ) -> String {
-        match ask {
-            Ask::Forms => walked(rt, table.paths(), steps),
-            Ask::GetInterned => match table.get_interned(first(rt, contents).form()) {
-                None => word(rt, "none"),
-                Some((symbol, form)) => numbered(rt, symbol, form.shown()),
-            },
-            _ => answer(rt, table, contents, steps, ask),
-        }
+impl<S: HasherCount> Table for PackedTable<PathKind, S> {
+    const ARE_PATHS: bool = true;
+
+    fn ask<R: Host>(&mut self, rt: &R, contents: &[Self::Item], steps: &str, ask: Ask) -> String {
+        answer_or!(rt, self, contents, steps, ask, paths)
     }
 }
 

@@ -1,16 +1,13 @@
 //! What is run on tables of each kind: scripts, and more.
-use super::asks::{OwnedKind, PackedKind};
+use super::asks::{OwnedTable, PackedTable};
 use super::loops::{interns, keeps_new};
 use super::script::plays;
 use super::table::{Makes, Table};
 use crate::support::builders::{Fold, hash_of};
-use crate::support::kinds::{
-    BStrKind, BytesKind, CStrKind, Host, OsStrKind, PathKind, StrKind, TestKind,
-};
+use crate::support::kinds::{BStrKind, BytesKind, CStrKind, Host, OsStrKind, PathKind, StrKind};
 use crate::support::tables::Make;
 use crate::tests::assertions::same;
-use intaglio::packed::Packed;
-use intaglio::{AllSymbols, ContentOf, Symbol, TableOver};
+use intaglio::{AllSymbols, Symbol};
 use intaglio_hash::FixedState;
 
 /// What can be tried on tables of any kind.
@@ -19,19 +16,11 @@ pub trait Trial {
     fn try_on<T: Makes, R: Host>(&self, rt: &R);
 }
 
-/// Runs the trial on tables of owned contents of one kind.
-pub fn try_owned<K: TestKind + OwnedKind, Q: Trial>(rt: &impl Host, trial: &Q) {
-    trial.try_on::<TableOver<Vec<ContentOf<K>>, Fold>, _>(rt);
-}
+/// A table of owned contents, as it is by default.
+pub type Owned<K> = OwnedTable<K, Fold>;
 
-fn try_packed<K: TestKind + OwnedKind + PackedKind, Q: Trial>(rt: &impl Host, trial: &Q) {
-    trial.try_on::<TableOver<Packed<K>, FixedState>, _>(rt);
-}
-
-fn try_both<K: TestKind + OwnedKind + PackedKind, Q: Trial>(rt: &impl Host, trial: &Q) {
-    try_owned::<K, Q>(rt, trial);
-    try_packed::<K, Q>(rt, trial);
-}
+/// A table in one buffer, as it is by default.
+pub type InBuffer<K> = PackedTable<K, FixedState>;
 
 /// Runs the trial on tables of each kind.
 pub fn try_on_each<Q: Trial>(rt: &impl Host, trial: &Q) {
@@ -41,37 +30,41 @@ pub fn try_on_each<Q: Trial>(rt: &impl Host, trial: &Q) {
 
 /// Runs the trial on tables of owned contents of each kind.
 pub fn try_on_owned<Q: Trial>(rt: &impl Host, trial: &Q) {
-    try_owned::<StrKind, Q>(rt, trial);
-    try_owned::<OsStrKind, Q>(rt, trial);
-    try_owned::<BytesKind, Q>(rt, trial);
-    try_owned::<BStrKind, Q>(rt, trial);
-    try_owned::<CStrKind, Q>(rt, trial);
-    try_owned::<PathKind, Q>(rt, trial);
+    trial.try_on::<Owned<StrKind>, _>(rt);
+    trial.try_on::<Owned<OsStrKind>, _>(rt);
+    trial.try_on::<Owned<BytesKind>, _>(rt);
+    trial.try_on::<Owned<BStrKind>, _>(rt);
+    trial.try_on::<Owned<CStrKind>, _>(rt);
+    trial.try_on::<Owned<PathKind>, _>(rt);
 }
 
 /// Runs the trial on tables in one buffer.
 pub fn try_on_packed<Q: Trial>(rt: &impl Host, trial: &Q) {
-    try_packed::<StrKind, Q>(rt, trial);
-    try_packed::<OsStrKind, Q>(rt, trial);
-    try_packed::<BytesKind, Q>(rt, trial);
-    try_packed::<BStrKind, Q>(rt, trial);
-    try_packed::<PathKind, Q>(rt, trial);
+    trial.try_on::<InBuffer<StrKind>, _>(rt);
+    trial.try_on::<InBuffer<OsStrKind>, _>(rt);
+    trial.try_on::<InBuffer<BytesKind>, _>(rt);
+    trial.try_on::<InBuffer<BStrKind>, _>(rt);
+    trial.try_on::<InBuffer<PathKind>, _>(rt);
 }
 
 /// Runs the trial on tables of bytes.
 pub fn try_on_bytes<Q: Trial>(rt: &impl Host, trial: &Q) {
-    try_both::<BytesKind, Q>(rt, trial);
-    try_both::<BStrKind, Q>(rt, trial);
+    trial.try_on::<Owned<BytesKind>, _>(rt);
+    trial.try_on::<InBuffer<BytesKind>, _>(rt);
+    trial.try_on::<Owned<BStrKind>, _>(rt);
+    trial.try_on::<InBuffer<BStrKind>, _>(rt);
 }
 
 /// Plays the script on tables of texts.
 pub fn on_texts(rt: &impl Host, script: &'static str) {
-    try_both::<StrKind, _>(rt, &Script(script));
+    plays::<Owned<StrKind>>(rt, script);
+    plays::<InBuffer<StrKind>>(rt, script);
 }
 
 /// Plays the script on tables of paths.
 pub fn on_paths(rt: &impl Host, script: &'static str) {
-    try_both::<PathKind, _>(rt, &Script(script));
+    plays::<Owned<PathKind>>(rt, script);
+    plays::<InBuffer<PathKind>>(rt, script);
 }
 
 /// A script, whose calls make their tables.

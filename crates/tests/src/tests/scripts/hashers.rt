@@ -1,7 +1,8 @@
 //! How many hashers a table makes, and tables whose hashes are equal, share buckets or are random.
-use super::asks::OwnedKind;
+use super::asks::OwnedTable;
 use super::each::{Script, try_on_each, try_on_owned, try_on_packed};
 use super::script::{lines_of, makes_calls};
+use super::table::Table;
 use crate::support::builders::{Counted, HasherCount};
 use crate::support::kinds::{Host, StrKind, TestKind};
 use crate::tests::assertions::same;
@@ -9,7 +10,7 @@ use intaglio::packed::Packed;
 use intaglio::path::{Path, PathContent};
 use intaglio::{
     AddedTo, BaseInterner, Content, ContentOf, Copied, Indexed, Keyed, LookedUpIn, Sought,
-    SoughtIn, StrContent, Table, TableOver, Work, check_all,
+    SoughtIn, StrContent, TableOver, Work, check_all,
 };
 use intaglio_core::look_ahead;
 use std::hash::RandomState;
@@ -152,8 +153,11 @@ fn random_hashes_serve_too(rt: HostRuntime) {
     plays_under::<StrKind>(&rt, hasher);
 }
 
-fn plays_under<K: TestKind + OwnedKind>(rt: &impl Host, hasher: RandomState) {
-    let made = Table::<ContentOf<K>, RandomState>::with_hasher(rt.alloc(), hasher);
+fn plays_under<K: TestKind>(rt: &impl Host, hasher: RandomState)
+where
+    OwnedTable<K, RandomState>: Table<Item = ContentOf<K>>,
+{
+    let made = OwnedTable::<K, RandomState>::with_hasher(rt.alloc(), hasher);
     makes_calls(rt, &mut made.expect(rt, "no table"), &lines_of(rt, RANDOM));
 }
 

@@ -1,5 +1,5 @@
 //! What only some kinds of content have: spellings of equal paths, zero bytes, and bytes that aren't UTF-8.
-use super::each::{Kept, Script, on_paths, try_on_bytes, try_on_each, try_owned};
+use super::each::{Kept, Owned, Script, Trial, on_paths, try_on_bytes, try_on_each};
 use crate::support::kinds::{CStrKind, Host, TestKind};
 use crate::tests::assertions::same;
 use intaglio::cstr;
@@ -44,7 +44,7 @@ fn zeros_are_bytes(rt: HostRuntime) {
 fn bytes_that_are_no_text_are_kept(rt: HostRuntime) {
     let bytes: [&[u8]; 5] = [b"\x00", b"\xff", b"\x00\xff", b"\x00\xfe", b"\x00\xff\x00"];
     try_on_bytes(&rt, &Kept(&bytes));
-    try_owned::<CStrKind, _>(&rt, &Kept(&[b"\xff"]));
+    Kept(&[b"\xff"]).try_on::<Owned<CStrKind>, _>(&rt);
 }
 
 #[test]

@@ -2,7 +2,7 @@
 //! contents, and by borrowed texts.
 use super::each::{Trial, try_on_each};
 use super::printed::reply_text;
-use super::script::{Line, agrees, content, lines_of, size, split_part, symbol};
+use super::script::{Line, agrees, content, parts_of, size, symbol};
 use super::table::Makes;
 use crate::support::builders::Fold;
 use crate::support::kinds::{Host, StrKind, TestContent, TestKind};
@@ -41,17 +41,11 @@ struct ByContents(&'static str);
 
 impl Trial for ByContents {
     fn try_on<T: Makes, R: Host>(&self, rt: &R) {
-        let lines = lines_of(rt, self.0);
-        let mut rest = lines.as_slice();
-        for _ in 0..lines.len() {
-            let Some((first, calls, others)) = split_part(rt, rest) else {
-                return;
-            };
-            let made = T::make(rt.alloc(), Make::Limited(size(rt, first.word)));
+        for part in parts_of(rt, self.0) {
+            let made = T::make(rt.alloc(), Make::Limited(size(rt, part.first.word)));
             let mut table = made.expect(rt, "no table");
-            let replies = table.run(rt.alloc(), by_contents(rt, calls));
-            agree(rt, calls, &replies.expect(rt, "memory"));
-            rest = others;
+            let replies = table.run(rt.alloc(), by_contents(rt, &part.calls));
+            agree(rt, &part.calls, &replies.expect(rt, "memory"));
         }
     }
 }
@@ -63,17 +57,11 @@ fn a_run_on_each_table_answers_as_its_calls(rt: HostRuntime) {
 
 #[test]
 fn a_run_on_a_core_and_by_texts_answers_as_its_calls(rt: HostRuntime) {
-    let lines = lines_of(&rt, RUNS);
-    let mut rest = lines.as_slice();
-    for _ in 0..lines.len() {
-        let Some((first, calls, others)) = split_part(&rt, rest) else {
-            return;
-        };
-        let limit = size(&rt, first.word);
+    for part in parts_of(&rt, RUNS) {
+        let (limit, calls) = (size(&rt, part.first.word), part.calls.as_slice());
         runs_on_a_core::<StrKind>(&rt, limit, calls);
         runs_owned::<StrKind, _>(&rt, limit, by_texts(&rt, calls), calls);
         runs_packed::<StrKind, _>(&rt, limit, by_texts(&rt, calls), calls);
-        rest = others;
     }
 }
 

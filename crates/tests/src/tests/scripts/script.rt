@@ -5,7 +5,7 @@ use super::asks::Ask;
 use super::loops::{asked, makes_turns};
 use super::printed::{number, reply_text, spelled, symbols_text, word};
 use super::steps::walked;
-use super::table::{Counts, Makes, Table};
+use super::table::{Makes, Table};
 use crate::support::builders::Counted;
 use crate::support::kinds::{Host, TestContent};
 use crate::support::replies::{interned, roomy};
@@ -95,27 +95,32 @@ pub fn way(rt: &impl Host, line: Line) -> Option<Result<Make, Counted>> {
     }
 }
 
-/// The call that makes the first table, the calls on this one, and the rest.
-pub fn split_part<'l>(rt: &impl Host, lines: &'l [Line]) -> Option<(Line, &'l [Line], &'l [Line])> {
-    let (first, after) = lines.split_first()?;
-    for i in 0..after.len() {
-        if way(rt, after[i]).is_some() {
-            return Some((*first, &after[..i], &after[i..]));
+/// The calls on one table, and the one that makes it.
+#[derive(Drop)]
+pub struct Part {
+    pub first: Line,
+    pub calls: Vec<Line>,
+}
+
+/// The calls of a script, by tables.
+pub fn parts_of(rt: &impl Host, script: &'static str) -> Vec<Part> {
+    let mut parts: Vec<Part> = Vec::new(rt.alloc());
+    for first in lines_of(rt, script) {
+        match parts.last_mut() {
+            Some(part) if way(rt, first).is_none() => part.calls.push(first).expect(rt, "memory"),
+            _ => {
+                let calls = Vec::new(rt.alloc());
+                parts.push(Part { first, calls }).expect(rt, "memory");
+            }
         }
     }
-    Some((*first, after, &[]))
+    parts
 }
 
 /// Makes the calls of a script.
 pub fn plays<T: Makes>(rt: &impl Host, script: &'static str) {
-    let lines = lines_of(rt, script);
-    let mut rest = lines.as_slice();
-    for _ in 0..lines.len() {
-        let Some((first, calls, others)) = split_part(rt, rest) else {
-            return;
-        };
-        plays_part::<T>(rt, first, calls);
-        rest = others;
+    for part in parts_of(rt, script) {
+        plays_part::<T>(rt, part.first, &part.calls);
     }
 }
 
@@ -168,7 +173,7 @@ fn reply<T: Table>(rt: &impl Host, table: &mut T, line: Line) -> Option<Reply> {
         "index" => Some(spelled(rt, table.index(symbol(rt, line.word)))),
         _ => match update(rt, line) {
             Some(update) => Some(table.update(update)),
-            None => count(rt, table.counts(), line),
+            None => table.number(line.name, line.word),
         },
     }
 }
@@ -182,19 +187,6 @@ fn update(rt: &impl Host, line: Line) -> Option<Update> {
         "shrink_to_fit" => Some(Update::ShrinkToFit),
         "clear" => Some(Update::Clear),
         "take_back" => Some(Update::TakeBack(size(rt, line.word))),
-        _ => None,
-    }
-}
-
-fn count(rt: &impl Host, counts: Counts, line: Line) -> Option<Reply> {
-    match line.name {
-        "len" => Some(Reply::Count(counts.len)),
-        "is_empty" => Some(Reply::Bool(counts.is_empty)),
-        "capacity" => Some(Reply::Count(counts.capacity)),
-        "fits" => Some(Reply::Bool(counts.capacity >= size(rt, line.word))),
-        "limit" => Some(Reply::Count(counts.limit)),
-        "mark" => Some(Reply::Count(counts.mark.count())),
-        "hashers" => Some(Reply::Count(counts.hashers?)),
         _ => None,
     }
 }

@@ -1,39 +1,47 @@
-//! A trait that has the calls of a table, but no contracts. So its callers are proved without the contracts
+//! Traits that have the calls of a table, but no contracts. So their callers are proved without the contracts
 //! of these calls.
-//!
-//! The prover takes seconds wherever a table of one kind is passed to a call of any table: here that is
-//! done once, for tables of any kind.
-use super::asks::{Ask, OwnedKind, OwnedTable, PackedKind, PackedTable};
-use crate::support::builders::{Counted, Fold, HasherCount};
-use crate::support::kinds::{Host, TestKind};
+use super::asks::Ask;
+use crate::support::builders::{Counted, HasherCount};
+use crate::support::kinds::Host;
 use crate::support::tables::{Make, TestStore, TestTable};
-use intaglio::packed::Packed;
-use intaglio::{AllSymbols, ContentOf, Indexed, Mark, RoomError, TableOver};
-use intaglio_hash::FixedState;
+use intaglio::{AllSymbols, Content, Indexed, Reply, RoomError, SoughtIn, TableOver};
 use std::alloc::Global;
 
-/// The numbers of a table.
-#[derive(Drop)]
-pub struct Counts {
-    pub len: usize,
-    pub is_empty: bool,
-    pub capacity: usize,
-    pub limit: usize,
-    pub mark: Mark,
-    /// How many hashers the table's builder has made, by `hasher`.
-    pub hashers: Option<usize>,
-}
-
-/// A table, by its own calls.
-pub trait Table: TestTable {
-    /// Makes a call by the borrowed forms of contents, or these steps.
-    fn ask<R: Host>(&mut self, rt: &R, contents: &[Self::Item], steps: &str, ask: Ask) -> String;
-
-    /// Gets the numbers.
-    fn counts(&self) -> Counts;
-
+/// A table, by the calls that don't depend on its store.
+pub trait Numbered {
     /// As `all_symbols`.
     fn symbols(&self) -> AllSymbols<'_>;
+
+    /// What the call of this name returns, which counts. `fits` is whether the capacity is at least `word`.
+    fn number(&self, name: &str, word: &str) -> Option<Reply>;
+}
+
+impl<L: Indexed, S: HasherCount> Numbered for TableOver<L, S> {
+    fn symbols(&self) -> AllSymbols<'_> {
+        self.all_symbols()
+    }
+
+    fn number(&self, name: &str, word: &str) -> Option<Reply> {
+        match name {
+            "len" => Some(Reply::Count(self.len())),
+            "is_empty" => Some(Reply::Bool(self.is_empty())),
+            "capacity" => Some(Reply::Count(self.capacity())),
+            "fits" => Some(Reply::Bool(self.capacity() >= word.parse().ok()?)),
+            "limit" => Some(Reply::Count(self.limit())),
+            "mark" => Some(Reply::Count(self.mark().count())),
+            "hashers" => Some(Reply::Count(self.hasher().made()?)),
+            _ => None,
+        }
+    }
+}
+
+/// A table of one kind.
+pub trait Table: TestTable + Numbered {
+    /// Whether contents are compared as paths.
+    const ARE_PATHS: bool = false;
+
+    /// Makes a call by the borrowed forms of contents, or these steps, and returns its result as text.
+    fn ask<R: Host>(&mut self, rt: &R, contents: &[Self::Item], steps: &str, ask: Ask) -> String;
 }
 
 /// A table, or why there is no room for it.
@@ -44,9 +52,6 @@ pub trait Makes: Table {
     /// The same table with counted hashers.
     type Counting: Table;
 
-    /// Whether contents are compared as paths.
-    const ARE_PATHS: bool;
-
     /// Makes it.
     fn make(alloc: Global, how: Make) -> Made<Self>;
 
@@ -54,73 +59,20 @@ pub trait Makes: Table {
     fn make_counting(alloc: Global, count: usize, hasher: Counted) -> Made<Self::Counting>;
 }
 
-fn counts_of<L: Indexed, S: HasherCount>(table: &TableOver<L, S>) -> Counts {
-    Counts {
-        len: table.len(),
-        is_empty: table.is_empty(),
-        capacity: table.capacity(),
-        limit: table.limit(),
-        mark: table.mark(),
-        hashers: table.hasher().made(),
-    }
-}
-
-impl<K: TestKind + OwnedKind, S: HasherCount> Table for OwnedTable<K, S> {
-    fn ask<R: Host>(&mut self, rt: &R, contents: &[ContentOf<K>], steps: &str, ask: Ask) -> String {
-        K::ask_owned(rt, self, contents, steps, ask)
-    }
-
-    fn counts(&self) -> Counts {
-        counts_of(self)
-    }
-
-    fn symbols(&self) -> AllSymbols<'_> {
-        self.all_symbols()
-    }
-}
-
-impl<K: TestKind + OwnedKind> Makes for OwnedTable<K, Fold> {
-    type Counting = OwnedTable<K, Counted>;
-
-    const ARE_PATHS: bool = K::ARE_PATHS;
+impl<L: TestStore> Makes for TableOver<L, L::Hasher>
+where
+    L::Content: Content + SoughtIn<L> + Drop,
+    L::Prepared: Drop,
+    TableOver<L, L::Hasher>: Table,
+    TableOver<L, Counted>: Table,
+{
+    type Counting = TableOver<L, Counted>;
 
     fn make(alloc: Global, how: Make) -> Made<Self> {
-        <Vec<ContentOf<K>> as TestStore>::make(alloc, how)
+        L::make(alloc, how)
     }
 
-    fn make_counting(alloc: Global, count: usize, hasher: Counted) -> Made<OwnedTable<K, Counted>> {
-        TableOver::with_capacity_and_hasher(alloc, count, hasher)
-    }
-}
-
-impl<K: TestKind + OwnedKind + PackedKind, S: HasherCount> Table for PackedTable<K, S> {
-    fn ask<R: Host>(&mut self, rt: &R, contents: &[ContentOf<K>], steps: &str, ask: Ask) -> String {
-        K::ask_packed(rt, self, contents, steps, ask)
-    }
-
-    fn counts(&self) -> Counts {
-        counts_of(self)
-    }
-
-    fn symbols(&self) -> AllSymbols<'_> {
-        self.all_symbols()
-    }
-}
-
-impl<K: TestKind + OwnedKind + PackedKind> Makes for PackedTable<K, FixedState> {
-    type Counting = PackedTable<K, Counted>;
-
-    const ARE_PATHS: bool = K::ARE_PATHS;
-
-    fn make(alloc: Global, how: Make) -> Made<Self> {
-        <Packed<K> as TestStore>::make(alloc, how)
-    }
-
-    fn make_counting(
-        alloc: Global,
-        count: usize,
-        hasher: Counted,
-    ) -> Made<PackedTable<K, Counted>> {
+    fn make_counting(alloc: Global, count: usize, hasher: Counted) -> Made<TableOver<L, Counted>> {
         TableOver::with_capacity_and_hasher(alloc, count, hasher)
     }
 }
