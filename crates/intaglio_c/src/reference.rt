@@ -41,6 +41,9 @@ impl Reference {
     }
 }
 
+// These two push, since `collect` asks for less memory if its first request is refused, and C is to be told of
+// each refusal.
+
 // The set of each of these.
 pub(crate) fn sets_of(alloc: Global, all: &[Reference]) -> Result<Vec<SetId>, AllocError>
     ensures { IfOk result (λ sets. sets.items ≡ map set_in all.now) }
