@@ -37,6 +37,7 @@ module _ (old new : List (List ℕ)) (text : Option (List ℕ)) (numbers : List 
         of_missing new (get_or numbers c missing) past ∙ sym (of_missing old c e)
   ]
 
+  -- codes that are renumbered by such a map keep their lines
   pub kept : (cs : List ℕ) → AreCodes n cs → flat_map (code_line new text) (renumber numbers cs)
       ≡ flat_map (code_line old text) cs
   kept [] known = refl
@@ -48,6 +49,7 @@ abbrev pub LeadsRight : List ℕ → List (List ℕ) → ℕ → Type 0
 LeadsRight column maps i = (m : List ℕ) → slice_get maps i ≡ Some m →
     (source_of m ≡ source_for column i) × LeadAlike (get_or maps 0 []) m
 
+-- map i is right if the map that stands there leads right
 pub right-at : (column : List ℕ) (maps : List (List ℕ)) (i : ℕ) (m : List ℕ) → slice_get maps i ≡ Some m →
     source_of m ≡ source_for column i → LeadAlike (get_or maps 0 []) m → LeadsRight column maps i
 right-at column maps i m at from alike = grind (arith, common_steps)
@@ -74,18 +76,21 @@ module _ (column : List ℕ) (maps : List (List ℕ)) (is : IsColumn column) (me
   some : 0 < shards column
   some = some-shards (shards column) (source_of column) is.checksum.rows.header.source.fits
 
+  -- a column takes at least one map
   pub not-none : 0 < length maps
   not-none = omega (arith, met.many, some-wanted (shards column) (nat_lt 1 (source_of column).shards) some)
 
   from-at : (i : ℕ) (d : List ℕ) → i < length maps → (source_of (get_or maps i d)).shards ≡ shards column
   from-at i d within = ap (λ s. s.shards) (met.from i (get_or maps i d) (slice_get-get_or maps i d within))
 
+  -- each map has a source: the column's dictionary, which has at least one shard
   pub are-maps : All IsMapColumn maps
   are-maps = λ i d within. record {
     column = are i d within;
     source = λ none. omega (arith, none, some, from-at i d within);
   }
 
+  -- the column's source can be that of a column of the dictionary to which the first map leads
   pub fits-first : (first : List ℕ) → first ≡ get_or maps 0 first → fits (shards first) (source_of column) ≡ true
   fits-first first is-first =
       let fit = source-fits (shards column) (shards (get_or maps 0 first)) (source_of column)

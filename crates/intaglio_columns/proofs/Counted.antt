@@ -3,6 +3,7 @@ use Rattle.std.proofs.Common.{◌≡◌, ◌≢◌, ◌∙◌, ℕ, ◌+◌, ◌
 use Rattle.intaglio_columns.proofs.Names.{sum, cases_eq, ne_eqb, get_or-set_at, slice_get_within, get_or_from_slice_get, missing, AreCodes, count_of}
 use Rattle.std.proofs.lemmas.List.Sums.{count_by_more_yes, count_by_more_no, sum_by-set}
 
+-- of the first i codes, the counts of the n strings and of the missing code. They add up if all are codes
 pub record IsTally (n : ℕ) (cs : List ℕ) (i : ℕ) (counts : List ℕ) (gone : ℕ) : Type 0 where
   pub strings : length counts ≡ n
   pub each : (s : ℕ) → s < n → get_or counts s 0 ≡ count_of s (take i cs)
@@ -25,6 +26,7 @@ module _ {n : ℕ} {cs : List ℕ} {i : ℕ} {counts : List ℕ} {gone c : ℕ} 
       count_by_more_no (λ x. x == s) cs i 0 (slice_get_within cs i c at)
       (ne_eqb (get_or cs i 0) s (λ h. e (sym is ∙ h)))
 
+  -- one more code, which is the missing one
   pub tally_missing : c ≡ missing → n ≤ missing → IsTally n cs (i + 1) counts (gone + 1)
   tally_missing e small = record {
     strings = before.strings;
@@ -35,6 +37,7 @@ module _ {n : ℕ} {cs : List ℕ} {i : ℕ} {counts : List ℕ} {gone c : ℕ} 
     all = λ ok. omega (arith, before.all ok);
   }
 
+  -- or that of a string, whose count grows by one
   pub tally_string : c < n → c ≢ missing → IsTally n cs (i + 1) (set counts c (get_or counts c 0 + 1)) gone
   tally_string l ne =
       let below : c < length counts = omega (arith, l, before.strings) in
@@ -58,6 +61,7 @@ module _ {n : ℕ} {cs : List ℕ} {i : ℕ} {counts : List ℕ} {gone c : ℕ} 
         all = λ ok. omega (arith, before.all ok, sum_by-set (λ x. x) counts c more 0 below);
       }
 
+  -- or past the strings, where it isn't counted
   pub tally_other : n ≤ c → c ≢ missing → IsTally n cs (i + 1) counts gone
   tally_other l ne = record {
     strings = before.strings;

@@ -40,6 +40,7 @@ held-append front lines ended = grind (arith, common_steps, interned_all-append,
 
 module _ {kind : Kind} {is_kept : Bool} {front : List ℕ} {old : State (List ℕ)} {symbols : List ℕ} {count : ℕ}
     (ended : is_ended front ≡ true) (done : IsInterned kind is_kept front old symbols count) where
+  -- after more lines are interned behind a front of whole lines, all of both are
   pub lines-interned : {new : State (List ℕ)} {later : List ℕ} {after : ℕ} (lines : List ℕ) →
       Allows kind lines → new.contents ≡ interned_all (λ w. w ∷ []) old.contents (lines_of lines) →
       new.limit ≡ old.limit
@@ -79,6 +80,7 @@ module _ (front lines rest : List ℕ) (ended : is_ended front ≡ true) (whole 
       let more = rw (is, held-append front lines ended) at over in
       omega (arith, all-longer, more)
 
+  -- an input that has lines that aren't allowed isn't allowed
   pub not-allowed : (kind : Kind) → ¬ (Allows kind lines) → ¬ (Allows kind (front ++ (lines ++ rest)))
   not-allowed kind fault all =
       let behind = (allows-parts kind front (lines ++ rest) ended all).1 in
@@ -101,6 +103,7 @@ ended-take bytes (suc n) some within ten =
     ended-last (byte ∷ []) = refl
     ended-last (byte ∷ next ∷ more) = ended-last (next ∷ more)
 
+-- before anything is read, nothing is interned, and all of the input is left
 pub none-interned : {kind : Kind} {is_kept : Bool} (input : Option (List ℕ)) {state : State (List ℕ)}
     {symbols : List ℕ} {count : ℕ} → IsInterned kind is_kept [] state symbols count
     → HasInterned kind is_kept input input [] state symbols count
@@ -117,6 +120,7 @@ of-whole P (Some input) (Some rest) before read holds = subst P (sym read) (hold
 module _ {kind : Kind} {is_kept : Bool} {input left : Option (List ℕ)} {bytes : List ℕ}
     {state : State (List ℕ)} {symbols : List ℕ} {count : ℕ}
     (has : HasInterned kind is_kept input left bytes state symbols count) where
+  -- bytes that were read follow those that were held
   pub more-read : {later : Option (List ℕ)} {after : List ℕ} → ReadsMore left later bytes after →
       HasInterned kind is_kept input later after state symbols count
   more-read {later} reads = record {
@@ -128,6 +132,7 @@ module _ {kind : Kind} {is_kept : Bool} {input left : Option (List ℕ)} {bytes 
     done = has.done;
   }
 
+  -- whole lines at the front of the bytes that were held are interned, and dropped from these
   pub more-interned : {new : State (List ℕ)} {later : List ℕ} {after : ℕ} (n : ℕ) →
       is_ended (take n bytes) ≡ true
       → ((front : List ℕ) → is_ended front ≡ true → IsInterned kind is_kept front state symbols count →
@@ -141,6 +146,7 @@ module _ {kind : Kind} {is_kept : Bool} {input left : Option (List ℕ)} {bytes 
     done = add has.front has.ended has.done;
   }
 
+  -- at the end of the input the bytes that are held are interned too, and then all lines are
   pub all-interned : IsAtEnd left → (new : State (List ℕ)) (later : List ℕ) (after : ℕ)
       → ((front : List ℕ) → is_ended front ≡ true → IsInterned kind is_kept front state symbols count →
       IsInterned kind is_kept (front ++ bytes) new later after)
@@ -158,6 +164,7 @@ module _ {kind : Kind} {is_kept : Bool} {input left : Option (List ℕ)} {bytes 
       ∙ ap (λ t. t ++ rest) (take-append-drop n bytes)) ∙ sym (append_assoc has.front bytes rest))
       (says has.front (drop n bytes ++ rest) has.ended (inl end) has.done))
 
+  -- the same of all bytes that are held at the end of the input, which needn't end with a line end
   pub said-of-last : (P : List ℕ → Type 0) → IsAtEnd left
       → ((front rest : List ℕ) → is_ended front ≡ true → (is_ended bytes ≡ true) ⊎ (rest ≡ []) →
       IsInterned kind is_kept front state symbols count → P (front ++ (bytes ++ rest))) → IfSome input P

@@ -32,6 +32,7 @@ below-at bs is i code at =
       | inr same ↦ absurd (none-missing (codes bs) (is.column.full is.source) i code at same)
     ]
 
+-- each code of a map is less than the strings of its dictionary
 pub all-within : (maps : List (List ℕ)) → All IsMapColumn maps → AreWithin (map strings maps) (map codes maps)
 all-within [] are = tt
 all-within (m ∷ maps) are = (
@@ -54,6 +55,7 @@ sum-front count (m ∷ maps) zero = omega arith
 sum-front count (m ∷ maps) (suc i) = omega (arith, sum-front count maps i)
 
 module _ (maps : List (List ℕ)) (i : ℕ) (m : List ℕ) (at : slice_get maps i ≡ Some m) where
+  -- one map more adds its count to the sum
   pub sum-next : (count : List ℕ → ℕ) →
       sum_of (map count (take (i + 1) maps)) ≡ sum_of (map count (take i maps)) + count m
   sum-next count = ap (λ t. sum_of (map count t)) (next maps i m at)

@@ -8,10 +8,12 @@ module _ {X : Type 0} (xs : List X) (n : ℕ) (x : X) (at : slice_get xs n ≡ S
   next = (take_at_read xs n x (slice_get_within xs n x at)).1
       ∙ ap (λ t. take n xs ++ t ∷ []) (get_or_from_slice_get xs n x x at)
 
+  -- a fold over one item more takes one step more
   pub fold-next : {B : Type 0} (f : B → X → B) (a : B) →
       fold f a (take (n + 1) xs) ≡ f (fold f a (take n xs)) x
   fold-next f a = rw (next, fold-append f a (take n xs) (x ∷ [])) refl
 
+  -- the pieces so far, and that of one item more
   pub flat_map-next : (f : X → List ℕ) → flat_map f (take (n + 1) xs) ≡ flat_map f (take n xs) ++ f x
   flat_map-next f = rw (next, flat_map-append f (take n xs) (x ∷ []), append-nil (f x)) refl
 

@@ -73,6 +73,7 @@ pub record ArePlaced (p : ℕ → Bool) (cs places : List ℕ) (from : ℕ) (now
 pub none_placed : {p : ℕ → Bool} {cs places : List ℕ} → ArePlaced p cs places 0 places 0
 none_placed = grind (arith, common_steps)
 
+-- the next row that passes goes over the place behind the others, if there is one, and is counted
 pub next_placed : {p : ℕ → Bool} {cs places : List ℕ} {from : ℕ} {now : List ℕ} {count : ℕ} {new : List ℕ}
     {row : ℕ} → ArePlaced p cs places from now count → IsFirstRow p from cs row →
     (count < length now → new ≡ set now count row) → (length now ≤ count → new ≡ now)

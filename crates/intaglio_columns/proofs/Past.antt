@@ -9,13 +9,16 @@ module _ (p : ℕ → Bool) (cs : List ℕ) (row : ℕ) where
       (rows_past p (row + 1) cs)
   past_step l = ap (rows_from p row) (drop_more cs row 0 l)
 
+  -- if the code of a row passes, the row is the first from itself on
   pub past_yes : row < length cs → p (get_or cs row 0) ≡ true →
       rows_past p row cs ≡ row ∷ rows_past p (row + 1) cs
   past_yes l e = past_step l ∙ ap (λ b. cond b (row ∷ rows_past p (row + 1) cs) (rows_past p (row + 1) cs)) e
 
+  -- if it doesn't, those from this row on are those from the next one on
   pub past_no : row < length cs → p (get_or cs row 0) ≡ false → rows_past p row cs ≡ rows_past p (row + 1) cs
   past_no l e = past_step l ∙ ap (λ b. cond b (row ∷ rows_past p (row + 1) cs) (rows_past p (row + 1) cs)) e
 
+  -- from the end on no rows pass
   pub past_end : length cs ≤ row → rows_past p row cs ≡ []
   past_end l = ap (rows_from p row) (drop_all row cs l)
 
@@ -59,6 +62,7 @@ module _ (p : ℕ → Bool) (cs : List ℕ) (from row count n : ℕ) (before : C
     none = λ zero. before.none (omega (arith, is, zero)) ∙ past_no p cs row within e;
   }
 
+  -- one row more counts 1 if its code passes, and otherwise 0
   pub counted_more : (b : Bool) → b ≡ p (get_or cs row 0) → (b ≡ true → n ≡ 1) → (b ≡ false → n ≡ 0) →
       CountsAmong p from (row + 1) cs (count + n)
   counted_more b is one zero = elim (cases_Bool b) [

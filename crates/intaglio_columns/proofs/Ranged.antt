@@ -21,9 +21,11 @@ pub record HavePut (p : ℕ → Bool) (cs : List ℕ) (from : ℕ) (old new : Op
   pub put : Appends old new (flat_map number_line done)
 
 module _ {p : ℕ → Bool} {cs : List ℕ} {old : Option (List ℕ)} where
+  -- before the first row, nothing was put
   pub none_put : HavePut p cs 0 old old
   none_put = record { done = []; parts = refl; put = Appends-nil old }
 
+  -- the next row that passes is put
   pub row_put : {from row : ℕ} {mid : Option (List ℕ)} (new : Option (List ℕ)) → HavePut p cs from old mid →
       IsFirstRow p from cs row → Appends mid new (number_line row) → HavePut p cs (row + 1) old new
   row_put {from} {row} {mid} new before is more =

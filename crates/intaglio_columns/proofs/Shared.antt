@@ -19,6 +19,7 @@ first-length many (suc s) strings = omega (
 )
 
 module _ {X : Type 0} (strings-of : X → List (List ℕ)) (lists : List X) where
+  -- the split of a list into shards has as many lists as there are shards
   pub shards-length : (many : ℕ) (strings : List (List ℕ)) → map strings-of lists ≡ shards many strings →
       length lists ≡ many
   shards-length many strings split =

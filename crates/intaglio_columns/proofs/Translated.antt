@@ -143,6 +143,7 @@ module _ {pieces : List ℕ → List (List ℕ)} {fits : List ℕ → Bool} {tra
       subst (λ t. ReportsMisfit fits e (done.front ++ t)) (sym (first more is))
       (reports done.front (pieces (rest ++ more)) done.fit done.counted))
 
+  -- the same of one piece
   pub next-misfit : (e : TranslateError) (piece rest : List ℕ) → Begins pieces left bytes (piece ∷ []) rest
       → ReportsPiece fits e piece number → IfSome input (λ input. ReportsMisfit fits e (pieces input))
   next-misfit e piece rest first reports =
@@ -157,6 +158,7 @@ module _ {pieces : List ℕ → List (List ℕ)} {fits : List ℕ → Bool} {tra
       (ap (λ t. pieces (t ++ more)) empty ∙ ap pieces (is end) ∙ none) ∙ append-nil done.front))
       (written-out old mid new block (flat_map translated done.front) done.put out))
 
+-- a failed allocation, read or write is reported whatever the pieces are
 pub failure-reports : (fits : List ℕ → Bool) (pieces : List ℕ → List (List ℕ)) (input : Option (List ℕ))
     (e : TranslateError) → IsFailure e → IfSome input (λ input. ReportsMisfit fits e (pieces input))
 failure-reports fits pieces None e fails = tt

@@ -212,6 +212,7 @@ module _ {h : ColumnHeader} (cs : List ℕ) (wide : h.width ≡ width_for h.id.c
     rows = long ∙ sym rows_same;
   }
 
+  -- such bytes are a column: the header and the codes are read back as they were written
   pub file_is : {bytes : List ℕ} → bytes ≡ file_of h cs → IsFileOf h cs bytes
   file_is is = rw is (record {
     checksum = checksum_there;

@@ -1,3 +1,5 @@
+-- Only `decodes` is hard. There are at most 2^32 strings, so four bytes give back the symbol that was
+-- written. Without the missing code each line has one.
 use Rattle.std.proofs.Common.{subst, arith}
 use Rattle.intaglio_columns.proofs.Names.{lines_of, has_code, AllFit}
 use Rattle.intaglio_columns.proofs.Coded.{decodes-to-input, if-some}

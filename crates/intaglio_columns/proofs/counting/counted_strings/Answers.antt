@@ -1,3 +1,4 @@
+-- A rank's line is stated by the lists of counts and strings, and the two calls return their items.
 use Rattle.std.proofs.Common.{◌≡◌, ◌∙◌, ℕ, [], get_or, slice_get, Some, ap, sym}
 use Rattle.intaglio_columns.proofs.Names.{get_or_from_slice_get, slice_get-get_or, count_line, rank_line}
 use Rattle.intaglio_columns.proofs.Listed.{same-next}

@@ -1,3 +1,4 @@
+-- The invariant bounds `skip` by what `drop` leaves, and the slice up to the end is just that (`take_rest`).
 use Rattle.std.proofs.Common.{◌≡◌, ◌∙◌, ◌+◌, ◌-◌, ◌++◌, [], ◌∷◌, ap, length, arith}
 use Rattle.intaglio_columns.proofs.Names.{take_rest}
 use Rattle.intaglio_columns.proofs.encoding.first_lines.Goals as goal

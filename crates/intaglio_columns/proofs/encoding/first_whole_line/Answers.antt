@@ -1,3 +1,4 @@
+-- No line ends in the bytes that were seen, so the first line end behind them is the first of all.
 use Rattle.std.proofs.Common.{◌∙◌, ◌+◌, ap, option_map}
 use Rattle.intaglio_columns.proofs.Cut.{line-last, line-starts, position-behind}
 use Rattle.intaglio_columns.proofs.encoding.first_whole_line.Goals as goal

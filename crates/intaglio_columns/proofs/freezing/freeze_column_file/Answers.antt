@@ -1,3 +1,5 @@
+-- The table and its column are made of what was interned, which is the input's distinct lines and their
+-- symbols. For `order`: wherever the table is written, the column was written whole before it.
 use Rattle.std.proofs.Common.{inr, refl, rules}
 use Rattle.intaglio_frozen.specs.Freezing.{IsRefusal as IsTableRefusal}
 use Rattle.intaglio_columns.proofs.Names.{distinct_lines}

@@ -1,3 +1,4 @@
+-- `frozen` says why the interned lines have no table. They are the distinct lines of the input (`held`).
 use Rattle.intaglio_frozen.specs.Freezing.{IsRefusal as IsTableRefusal}
 use Rattle.intaglio_columns.proofs.Names.{distinct_lines}
 use Rattle.intaglio_columns.proofs.Coded.{if-some}

@@ -1,3 +1,5 @@
+-- `add` may follow any interned front of whole lines, and what it says of that front is true of the input.
+-- The last bytes needn't end a line, because nothing follows them.
 use Rattle.std.proofs.Common.{◌≡◌, rules}
 use Rattle.intaglio_columns.proofs.Names.{IsRefusal}
 use Rattle.intaglio_columns.proofs.Interned.{all-interned, allows-nothing, more-interned, more-read, none-interned, of-any, said-of-last, said-of-lines}

@@ -1,3 +1,4 @@
+-- The front of `size` bytes ends with the line feed that was found, which is what `is_ended` asks for.
 use Rattle.std.proofs.Common.{◌≡◌, ◌-◌, get_or, rules}
 use Rattle.intaglio_columns.proofs.Interned.{ended-take}
 use Rattle.intaglio_columns.proofs.interning.size_of_lines.Goals as goal

@@ -1,3 +1,4 @@
+-- The size falls from the number of bytes, so the byte before it is one of them.
 use Rattle.std.proofs.Common.{◌≤◌, length}
 use Rattle.intaglio_columns.proofs.interning.size_of_lines.Given as goal
 

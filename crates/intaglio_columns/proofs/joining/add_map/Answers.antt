@@ -1,3 +1,4 @@
+-- A map has no missing row, so its numbers are below its count of strings, and `start + number` is a `u32`.
 use Rattle.intaglio_columns.proofs.Names.{common_steps, slice_get}
 use Rattle.std.proofs.Common.{◌≡◌, ◌<◌, ◌∙◌, ◌++◌, [], ◌∷◌, ap, arith, rules, Some, sym}
 use Rattle.intaglio_columns.specs.Layout.{codes}

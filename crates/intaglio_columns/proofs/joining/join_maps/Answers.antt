@@ -1,3 +1,4 @@
+-- The start counts the strings of the maps before. With those of this map it is at most the sum over all.
 use Rattle.intaglio_columns.proofs.Names.{common_steps, slice_get, slice_get_read, strings}
 use Rattle.std.proofs.Common.{◌≡◌, arith, refl, rules, Some}
 use Rattle.intaglio_columns.proofs.JoinedMaps.{all-within, joined-next, sum-next, sum-within}

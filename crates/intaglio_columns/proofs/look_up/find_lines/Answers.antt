@@ -1,3 +1,4 @@
+-- In a whole dictionary each look-up returns the first position, so what was found are the answers.
 use Rattle.intaglio_columns.proofs.Names.{lines_of, Writes, answers}
 use Rattle.intaglio_columns.proofs.Found.{found-answers, of-input}
 use Rattle.intaglio_columns.proofs.look_up.find_lines.Goals as goal

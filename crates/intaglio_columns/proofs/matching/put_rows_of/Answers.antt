@@ -1,3 +1,4 @@
+-- The rows put and those from `from` on with the code are always all of them: a step puts the first of these.
 use Rattle.intaglio_columns.proofs.Ranged.{none_put, row_put}
 use Rattle.intaglio_columns.proofs.matching.put_rows_of.Goals as goal
 

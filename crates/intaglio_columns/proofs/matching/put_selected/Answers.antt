@@ -1,3 +1,4 @@
+-- The rows put and those selected from `from` on are always all: a step puts the first of the latter.
 use Rattle.intaglio_columns.proofs.Ranged.{none_put, row_put}
 use Rattle.intaglio_columns.proofs.matching.put_selected.Goals as goal
 

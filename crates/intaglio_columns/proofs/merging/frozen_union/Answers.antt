@@ -1,3 +1,4 @@
+-- An error of the merge is right for each kind. One of freezing is about the merged strings, the union.
 use Rattle.intaglio_columns.proofs.Parts.{passed-on}
 use Rattle.intaglio_columns.proofs.merging.frozen_union.Goals as goal
 

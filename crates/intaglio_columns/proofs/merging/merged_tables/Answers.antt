@@ -1,3 +1,4 @@
+-- The clauses of `merge_tables` map each table to its strings. For frozen tables this is the identity.
 use Rattle.std.proofs.Common.{◌≡◌, ◌∙◌, ap, map, subst}
 use Rattle.intaglio_columns.proofs.Names.{map-id, union, AreMaps}
 use Rattle.intaglio_columns.proofs.merging.merged_tables.Goals as goal

@@ -1,3 +1,4 @@
+-- The two tests decide just what `LeadsRight` says of map i, so the one that fails is the error.
 use Rattle.intaglio_columns.proofs.Names.{common_steps, slice_get, slice_get-get_or, slice_get_read, slice_get_within, LeadAlike}
 use Rattle.std.proofs.Common.{◌≡◌, ◌∙◌, [], below_more, arith, get_or, refl, rules, Some}
 use Rattle.intaglio_columns.proofs.Agreed.{LeadsRight, first-is, right-at}

@@ -1,3 +1,5 @@
+-- All follows from `Meet`: the maps have a source and can be joined, they lead to a dictionary that can have
+-- the column's source, and the codes keep their lines.
 use Rattle.std.proofs.Common.{◌∙◌, ap, subst, sym}
 use Rattle.intaglio_columns.specs.Layout.{codes}
 use Rattle.intaglio_columns.proofs.Names.{renumber, KeepsLines}

@@ -1,3 +1,4 @@
+-- A sum that stops at the greatest number in some step would be past it at the end too: sums only grow.
 use Rattle.intaglio_columns.proofs.Names.{common_steps, slice_get, slice_get_read, rows, strings}
 use Rattle.std.proofs.Common.{◌≡◌, arith, refl, rules, Some}
 use Rattle.intaglio_columns.proofs.JoinedMaps.{sum-next}

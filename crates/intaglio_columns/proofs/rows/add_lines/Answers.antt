@@ -1,3 +1,4 @@
+-- The range's codes begin at its first row, so the code of a row is item `row - first` of them.
 use Rattle.std.proofs.Common.{◌≡◌, ◌∙◌, ◌+◌, ◌-◌, ◌++◌, drop, slice_get, ap, sym, arith}
 use Rattle.intaglio_columns.proofs.Names.{option_map, spelling_line, code_line}
 use Rattle.intaglio_columns.specs.Layout.{codes}

@@ -1,3 +1,4 @@
+-- A fault of this range is one of all ranges only because those before it ended at rows that are there.
 use Rattle.std.proofs.Common.{arith}
 use Rattle.intaglio_columns.proofs.Names.{common_steps}
 use Rattle.std.proofs.lemmas.Result.{err_from_is_err_and}

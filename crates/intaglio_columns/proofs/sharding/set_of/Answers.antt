@@ -1,3 +1,4 @@
+-- After the loop no list is left, so the identities that were pushed are those of all shards.
 use Rattle.std.proofs.Common.{◌∙◌, ap, map}
 use Rattle.intaglio_columns.proofs.Names.{set_of_shards}
 use Rattle.intaglio_columns.proofs.Shared.{set-from}

@@ -1,3 +1,4 @@
+-- Both sizes are folds, to which the next string adds a step. A total that stopped at 2^64 - 1 stays there.
 use Rattle.std.proofs.Common.{◌∙◌, ◌+◌, sym, ap, length, max, rules, arith}
 use Rattle.intaglio_columns.proofs.Names.{option_copied}
 use Rattle.intaglio_columns.proofs.Listed.{fold-next}

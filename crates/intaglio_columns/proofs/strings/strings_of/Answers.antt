@@ -1,3 +1,4 @@
+-- What `decoded` reads at a symbol by position is what the dictionary returned, so the lines are the same.
 use Rattle.std.proofs.Common.{[], ap, sym, rules, refl, slice_index_or}
 use Rattle.intaglio_columns.proofs.Names.{get_or_from_slice_get, slice_get_read, spelling_line}
 use Rattle.intaglio_columns.proofs.Listed.{same-next}

@@ -1,3 +1,5 @@
+-- The pieces before the last are in the block or written, then the last is, and then the block is written
+-- out. Wherever this stops, a front of it was written: if the first allocation fails, an empty one.
 use Rattle.std.proofs.Common.{[], refl}
 use Rattle.intaglio_columns.proofs.Parts.{on-err}
 use Rattle.intaglio_columns.proofs.Translated.{all-written, block-part, kept-part, none-translated}

@@ -1,3 +1,4 @@
+-- An error of `put_front` is passed on as it is. It was said of a slice, and that is all of the vector.
 use Rattle.intaglio_columns.proofs.Parts.{on-err, passed-on}
 use Rattle.intaglio_columns.proofs.translate.translate_front.Goals as goal
 

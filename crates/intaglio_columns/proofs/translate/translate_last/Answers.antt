@@ -1,3 +1,4 @@
+-- At the end of the input nothing can follow, so bytes that may be a part of a piece are the last piece.
 use Rattle.std.proofs.Common.{◌∙◌, [], ◌∷◌, ap}
 use Rattle.intaglio_columns.proofs.Parts.{on-err, one-part}
 use Rattle.intaglio_columns.proofs.Translated.{group-part, last-begins, next-translated, of-ok, one-piece}

@@ -1,3 +1,5 @@
+-- `first` finds a piece that stays one whatever follows, so what was translated goes on behind it. If a piece
+-- fails, what was written is a front of all before it and of its own translation.
 use Rattle.intaglio_columns.proofs.Names.{common_steps, drop-drop, take_rest}
 use Rattle.std.proofs.Common.{◌-◌, [], ◌∷◌, ap, drop, length, length-drop, take, arith}
 use Rattle.intaglio_columns.proofs.Parts.{on-err, one-part, passed-on}

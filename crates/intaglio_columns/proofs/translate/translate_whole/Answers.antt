@@ -1,3 +1,5 @@
+-- Bytes that are read only move from what is left to what is held, so `translate_front` can go on from there.
+-- What was written before an error stays a front of the translation.
 use Rattle.intaglio_columns.proofs.Parts.{on-err, passed-on}
 use Rattle.intaglio_columns.proofs.Translated.{failure-reports, kept-part, none-translated, reads-more}
 use Rattle.intaglio_columns.proofs.translate.translate_whole.Goals as goal

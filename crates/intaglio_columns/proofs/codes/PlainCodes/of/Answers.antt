@@ -1,3 +1,4 @@
+-- The invariant holds because the length is a multiple of 4, and each four bytes are cut into one code.
 use Rattle.intaglio_columns.proofs.Names.{common_steps}
 use Rattle.std.proofs.Common.{◌≡◌, ◌%◌, arith}
 use Rattle.intaglio_columns.proofs.Cut.{codes-count}

@@ -1,3 +1,5 @@
+-- By the invariant there are four bytes for each code, so `at` is within the bytes and can't overflow. Code i
+-- is made of just the four from there (`code-at`).
 use Rattle.intaglio_columns.proofs.Names.{common_steps}
 use Rattle.std.proofs.Common.{◌+◌, ◌*◌, ◌≤◌, ap, length, arith}
 use Rattle.intaglio_columns.proofs.Cut.{code-at}

@@ -1,3 +1,4 @@
+-- `check_interned` returns the first position of the key. There stands the string, because it is its own key.
 use Rattle.intaglio_columns.proofs.Found.{position-string}
 use Rattle.intaglio_columns.proofs.dictionary.FrozenDictionary.symbol.Goals as goal
 

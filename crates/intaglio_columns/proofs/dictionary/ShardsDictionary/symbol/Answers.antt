@@ -1,3 +1,4 @@
+-- As in a frozen table: a string is its own key, so it stands where the joined strings have the key first.
 use Rattle.intaglio_columns.proofs.Names.{joined}
 use Rattle.intaglio_columns.proofs.Found.{position-string}
 use Rattle.intaglio_columns.proofs.dictionary.ShardsDictionary.symbol.Goals as goal

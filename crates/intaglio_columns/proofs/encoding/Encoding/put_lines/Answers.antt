@@ -1,3 +1,5 @@
+-- A group's lines begin the rest of the bytes whatever follows them, so what was translated goes on behind
+-- them. If the group fails, what was written is a front of all before it and of a part of its codes.
 use Rattle.intaglio_columns.proofs.Names.{common_steps, drop-drop, length-map, take_rest}
 use Rattle.std.proofs.Common.{◌+◌, ◌-◌, ap, drop, length, map, refl, take, arith}
 use Rattle.intaglio_columns.proofs.Parts.{on-err, passed-on}

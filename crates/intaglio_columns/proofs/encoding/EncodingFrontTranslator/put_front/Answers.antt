@@ -1,3 +1,4 @@
+-- The trait says that the bytes seen are at most one piece. For lines this means that no line ends in them.
 use Rattle.std.proofs.Common.{take}
 use Rattle.intaglio_columns.proofs.Cut.{no-end}
 use Rattle.intaglio_columns.proofs.encoding.EncodingFrontTranslator.put_front.Goals as goal

@@ -1,3 +1,5 @@
+-- A hasher takes bytes one by one, so what it is given in parts counts as given at once. The format hashes
+-- the codes, and then the header with zeros for the checksum.
 use Rattle.std.proofs.Common.{◌∙◌, arith, ap, drop, sym}
 use Rattle.intaglio_columns.proofs.Names.{finish, length-take-le, take_rest}
 use Rattle.std.specs.Hash.DefaultHasher.{write}

@@ -1,3 +1,4 @@
+-- Eight bytes from 56 on become the sum, which was made of the old bytes. Those before and behind them stay.
 use Rattle.std.proofs.Common.{◌∙◌, ◌++◌, drop, take, ap, refl}
 use Rattle.intaglio_columns.proofs.Names.{w64, to_le_bytes}
 use Rattle.intaglio_columns.proofs.Checksums.{put_at_56}

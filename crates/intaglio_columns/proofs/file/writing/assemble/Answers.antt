@@ -1,3 +1,5 @@
+-- Header and codes are appended to nothing, and then sealed as one slice. `seal` keeps the length, so that
+-- slice is all that the vector holds.
 use Rattle.std.proofs.Common.{◌∙◌, ◌++◌, ap}
 use Rattle.intaglio_columns.proofs.Names.{flat_map, take_at, code_bytes, header_of, sealed}
 use Rattle.intaglio_columns.proofs.file.writing.assemble.Goals as goal

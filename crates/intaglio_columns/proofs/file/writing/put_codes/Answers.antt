@@ -1,3 +1,4 @@
+-- A code more is an item more of `flat_map`. It is known because the check in front returns for any other.
 use Rattle.std.proofs.Common.{◌∙◌, ◌++◌, take, ap, sym, arith}
 use Rattle.intaglio_columns.proofs.Names.{flat_map, common_steps, flat_map_more, slice_get_within, code_bytes}
 use Rattle.intaglio_columns.proofs.Listed.{next}

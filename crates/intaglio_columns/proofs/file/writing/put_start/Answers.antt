@@ -1,3 +1,4 @@
+-- The nine appends are rewritten from the last to the first, and then only the brackets of `++` differ.
 use Rattle.std.proofs.Common.{append_assoc}
 use Rattle.intaglio_columns.proofs.file.writing.put_start.Goals as goal
 

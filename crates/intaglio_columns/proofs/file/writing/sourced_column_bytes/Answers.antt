@@ -1,3 +1,5 @@
+-- Each clause is a part of `file_is`, which reads back all that `assemble` wrote. That no row is missing
+-- where none may be isn't a part of it, and comes from `check_full`.
 use Rattle.std.proofs.Common.{◌∙◌, ap, subst}
 use Rattle.intaglio_columns.proofs.Names.{file_of, IsHeaderOf, RowSource}
 use Rattle.intaglio_columns.proofs.Written.{file_is}

@@ -1,3 +1,5 @@
+-- Lines behind a line end are the same as alone, so they follow those before, and a fault of theirs is one of
+-- the whole input. Dropping the symbols first changes neither the table nor the count.
 use Rattle.intaglio_columns.proofs.Names.{common_steps, map-id, issue_from, lines_of, Allows}
 use Rattle.std.proofs.Common.{◌≡◌, ◌^◌, ◌+◌, ◌-◌, ◌++◌, [], ◌∷◌, true, min, length, length-append, ap, Err, arith, rules}
 use Rattle.intaglio_columns.proofs.Interned.{issue-length, lines-interned, not-allowed, too-many}

@@ -1,3 +1,4 @@
+-- Picking a shard's list and then reading its strings is the same as picking among the strings of all shards.
 use Rattle.intaglio_columns.proofs.Names.{common_steps, strings_in}
 use Rattle.std.proofs.Common.{◌≡◌, ◌∙◌, [], map, IfErr, subst, arith}
 use Rattle.intaglio_frozen.specs.Freezing.{IsRefusal as IsTableRefusal}

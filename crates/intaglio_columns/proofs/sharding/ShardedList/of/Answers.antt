@@ -1,3 +1,4 @@
+-- The invariant needs a list for each shard, and the split makes just so many, some of which may be empty.
 use Rattle.std.proofs.Common.{map}
 use Rattle.intaglio_columns.proofs.Shared.{shards-length}
 use Rattle.intaglio_columns.proofs.sharding.ShardedList.of.Goals as goal

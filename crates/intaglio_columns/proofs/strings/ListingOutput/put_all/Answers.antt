@@ -1,3 +1,4 @@
+-- The string of the next symbol is item `number` of the dictionary, so its line follows those that were put.
 use Rattle.std.proofs.Common.{◌∙◌, sym, ap, refl}
 use Rattle.intaglio_columns.proofs.Names.{option_copied, spelling_line}
 use Rattle.intaglio_columns.proofs.Listed.{appends-next}

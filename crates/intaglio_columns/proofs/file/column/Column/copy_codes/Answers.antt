@@ -1,3 +1,5 @@
+-- Codes from `from` on are a list of their own, of which item i goes to place i. The loop ends with the codes
+-- or with the places, and `overlaid` drops what has no place.
 use Rattle.intaglio_columns.proofs.Names.{common_steps}
 use Rattle.std.proofs.Common.{◌∙◌, arith, length-drop}
 use Rattle.intaglio_columns.proofs.Overlaid.{overlaid_all, overlaid_next, read_behind}

@@ -1,3 +1,4 @@
+-- The test as a number is 1 for a row that passes and 0 for another, and just so much is added to the count.
 use Rattle.intaglio_columns.proofs.Names.{common_steps}
 use Rattle.std.proofs.Common.{arith}
 use Rattle.intaglio_columns.proofs.CodesInFile.{all_length}

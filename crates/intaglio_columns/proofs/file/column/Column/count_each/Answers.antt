@@ -1,3 +1,5 @@
+-- A code is missing, or is past the strings, or changes the count of its string alone. If one is past them,
+-- the counts needn't add up to the rows, because `all` assumes that there is none.
 use Rattle.std.proofs.Common.{arith}
 use Rattle.intaglio_columns.proofs.Counted.{tally_missing, tally_other, tally_string}
 use Rattle.intaglio_columns.proofs.file.column.Column.count_each.Goals as goal

@@ -1,3 +1,4 @@
+-- Behind the last row none is left, so the count is that of all rows that pass, one for each code that does.
 use Rattle.intaglio_columns.proofs.Names.{common_steps}
 use Rattle.std.proofs.Common.{arith}
 use Rattle.intaglio_columns.proofs.Past.{past_end, rows_count}

@@ -1,3 +1,4 @@
+-- The rows skipped don't pass, so of those from `from` on that pass this one is the first.
 use Rattle.intaglio_columns.proofs.Names.{common_steps}
 use Rattle.std.proofs.Common.{◌∙◌, ◌<◌, arith}
 use Rattle.intaglio_columns.proofs.CodesInFile.{all_length}

@@ -1,3 +1,5 @@
+-- The test compares codes with the header's count, which is the number of strings. So a row that it finds is
+-- the first with no string, and if it finds none, all codes are known.
 use Rattle.std.proofs.Common.{◌≡◌, ◌∙◌}
 use Rattle.intaglio_columns.proofs.Names.{strings}
 use Rattle.intaglio_columns.specs.Layout.{codes}

@@ -1,3 +1,4 @@
+-- What was read of the header agrees with the bytes (`IsRead`), and the layout has one code for each row.
 use Rattle.std.proofs.Common.{◌∙◌, sym}
 use Rattle.intaglio_columns.proofs.CodesInFile.{all_length}
 use Rattle.intaglio_columns.proofs.file.column.Column.len.Goals as goal

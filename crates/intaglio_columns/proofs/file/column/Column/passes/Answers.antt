@@ -1,3 +1,4 @@
+-- The row is there, so `get_or` reads its code and not the default.
 use Rattle.std.proofs.Common.{◌∙◌, ap}
 use Rattle.intaglio_columns.proofs.CodesInFile.{read_or}
 use Rattle.intaglio_columns.proofs.file.column.Column.passes.Goals as goal

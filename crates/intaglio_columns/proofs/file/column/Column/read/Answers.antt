@@ -1,3 +1,4 @@
+-- Codes follow each other without gaps, so that of a row stands as many widths behind the header as rows do.
 use Rattle.intaglio_columns.proofs.CodesInFile.{read_get}
 use Rattle.intaglio_columns.proofs.file.column.Column.read.Goals as goal
 

@@ -1,3 +1,4 @@
+-- The rows pushed and those still to be found are always all of them: a step moves the first of the latter.
 use Rattle.std.proofs.Common.{◌∙◌, ℕ, ◌+◌, ◌==◌, ◌++◌, ap}
 use Rattle.intaglio_columns.specs.Layout.{codes}
 use Rattle.intaglio_columns.proofs.Names.{rows_of, rows_past}

@@ -1,3 +1,4 @@
+-- The bound of the loop is the number of codes, and that of the contract the number of rows: they are equal.
 use Rattle.intaglio_columns.proofs.Names.{common_steps}
 use Rattle.std.proofs.Common.{arith}
 use Rattle.intaglio_columns.proofs.CodesInFile.{all_length}
