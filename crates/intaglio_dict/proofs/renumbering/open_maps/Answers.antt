@@ -1,3 +1,4 @@
+-- `Column::open` returns only what is a column, so the map that is pushed is one like those before it.
 use Rattle.std.proofs.Common.{All, sym, subst}
 use Rattle.std.proofs.lemmas.List.Elements.{All-push}
 use Rattle.intaglio_columns.specs.IsColumn.{IsColumn}

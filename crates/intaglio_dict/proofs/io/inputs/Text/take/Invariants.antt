@@ -1,3 +1,4 @@
+-- The contract says nothing of the bytes, so only the end is shown: each pass takes one byte from the rest.
 use Rattle.std.proofs.Common.{length}
 use Rattle.intaglio_dict.proofs.io.inputs.Text.take.Given as goal
 
