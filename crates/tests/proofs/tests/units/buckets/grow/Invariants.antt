@@ -1,3 +1,4 @@
+-- The next number is the count of placed hashes, and there is room up to `to` by the reservation.
 use Rattle.std.proofs.Common.{◌≡◌, ◌≤◌, length}
 use Rattle.tests.proofs.tests.units.buckets.grow.Given as goal
 

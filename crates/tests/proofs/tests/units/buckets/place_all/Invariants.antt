@@ -1,3 +1,4 @@
+-- `place` takes the number of placed hashes as the next symbol, and returns what it is then.
 use Rattle.std.proofs.Common.{◌≡◌, length}
 use Rattle.tests.proofs.tests.units.buckets.place_all.Given as goal
 

@@ -1,3 +1,4 @@
+-- Each step needs the number of placed hashes, which the step before returned.
 use Rattle.std.proofs.Common.{◌≡◌, length}
 use Rattle.tests.proofs.tests.units.buckets.plays.Given as goal
 

@@ -1,3 +1,4 @@
+-- `add` leaves the index over the records also if a length doesn't fit into the byte of its record.
 use Rattle.intaglio_records.specs.Index.{IsOver}
 use Rattle.intaglio_records.specs.Records.{record_room_of}
 use Rattle.tests.proofs.tests.units.records.add_long.Given as goal

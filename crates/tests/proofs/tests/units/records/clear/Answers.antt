@@ -1,3 +1,4 @@
+-- The emptied index is over no strings with the old room, and clearing the records gives them no more room.
 use Rattle.std.proofs.Common.{[], arith}
 use Rattle.intaglio_records.specs.Records.{record_room_of}
 use Rattle.intaglio_records.proofs.IndexLemmas.{over_less}

@@ -1,3 +1,4 @@
+-- If the records are short, four bytes reach all the room that they have now, so the index stays over them.
 use Rattle.intaglio_records.specs.Records.{record_room_of}
 use Rattle.intaglio_records.proofs.IndexLemmas.{over_short}
 use Rattle.tests.proofs.tests.units.records.follow.Goals as goal

@@ -1,3 +1,4 @@
+-- A long index is over the records whatever room these have, so also with the room that they have now.
 use Rattle.intaglio_records.specs.Records.{record_room_of}
 use Rattle.tests.proofs.tests.units.records.lengthen.Goals as goal
 

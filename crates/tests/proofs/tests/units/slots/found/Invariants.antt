@@ -1,3 +1,4 @@
+-- `next` asks for a search and leaves one. The loop ends by its range, so nothing needs to fall.
 use Rattle.intaglio_records.specs.Search.{IsSearch}
 use Rattle.tests.proofs.tests.units.slots.found.Given as goal
 

@@ -1,3 +1,4 @@
+-- Each number took one place and the places stay as many, so there is one left for the next number.
 use Rattle.std.proofs.Common.{◌≡◌, List, length}
 use Rattle.intaglio_records.specs.Line.{Entry}
 use Rattle.intaglio_records.specs.Chains.{IsFilled, places_of}
