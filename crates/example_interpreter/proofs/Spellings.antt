@@ -58,6 +58,7 @@ module _ (old new : State BytesContent) (kept : Keeps bytes_key old new) where
       ) refl in
       rw (all, append_assoc (spelled old.contents tokens) lexeme back, cut) whole
 
+  -- with one more token, each still has a symbol of the table
   pub issued-push : (tokens after : List Token) (token : Token) →
       All (λ t. t.text < length old.contents) tokens → after ≡ tokens ++ token ∷ [] →
       token.text < length new.contents → All (λ t. t.text < length new.contents) after

@@ -1,3 +1,4 @@
+-- No text is stored twice in a valid table, so symbols of equal texts are the same.
 use Rattle.std.proofs.lemmas.Grind.{common_steps}
 use Rattle.std.proofs.Common.{arith}
 use Rattle.example_interpreter.proofs.Spellings.{same-text}

@@ -1,3 +1,5 @@
+-- Earlier tokens keep their texts while more are interned, as their symbols were issued before. The lexeme
+-- moves from the front of the rest to the end of what is spelled.
 use Rattle.std.proofs.Common.{◌≡◌, ◌++◌, ◌∷◌, [], rules}
 use Rattle.std.proofs.lemmas.List.{take-append-drop}
 use Rattle.intaglio.specs.Keys.{bytes_key}

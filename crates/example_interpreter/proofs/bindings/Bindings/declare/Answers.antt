@@ -1,3 +1,4 @@
+-- Interning keeps the texts of earlier symbols, so the names before stay, and the new symbol has this name.
 use Rattle.std.proofs.Common.{◌≡◌, ◌∙◌, ap, ◌++◌, ◌∷◌, [], List, ℕ, rules}
 use Rattle.example_interpreter.proofs.Shadowing.{declared_name}
 use Rattle.example_interpreter.proofs.bindings.Bindings.declare.Goals as goal

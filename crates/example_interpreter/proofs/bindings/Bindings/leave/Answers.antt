@@ -1,3 +1,4 @@
+-- The names are the mapped symbols, and the first of a mapped list are the first items mapped (`take-map`).
 use Rattle.std.proofs.Common.{◌∙◌, ap, sym, take}
 use Rattle.std.proofs.lemmas.List.{take-map}
 use Rattle.example_interpreter.specs.Names.{name_of}

@@ -1,3 +1,5 @@
+-- In a valid table a name is found at one symbol, so its last declaration is the symbol's. A declared name is
+-- always found, so one that isn't found has none.
 use Rattle.std.proofs.Common.{sym}
 use Rattle.example_interpreter.proofs.Shadowing.{last_name, undeclared}
 use Rattle.example_interpreter.proofs.bindings.Bindings.resolve.Goals as goal
