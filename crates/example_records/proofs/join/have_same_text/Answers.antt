@@ -1,3 +1,4 @@
+-- A text is stored in `right` at one symbol at most, and the list has it, so any other has another text.
 use Rattle.std.proofs.lemmas.Grind.{common_steps}
 use Rattle.std.proofs.Common.{arith, ◌≡◌, ◌∙◌}
 use Rattle.example_records.proofs.SameText.{same-text}

@@ -1,3 +1,5 @@
+-- The table has as many strings as keys were read. If the next key adds none, it was there, at an earlier
+-- position. Otherwise the table holds it too.
 use Rattle.std.proofs.lemmas.Grind.{common_steps}
 use Rattle.std.proofs.Common.{◌≡◌, ◌≢◌, ◌<◌, arith, sym, ◌∙◌, map, length, List, [], ℕ, Bor}
 use Rattle.std.proofs.lemmas.List.{get_or-map, length-map, take_all}

@@ -1,3 +1,5 @@
+-- A symbol past the counts is new, so it is the next number, at which 1 is pushed. Other words have other
+-- symbols, and the counts at these stay.
 use Rattle.std.proofs.Common.{rules, arith, ap, refl, sym, ◌∙◌, ◌≡◌, length, ◌+◌, [], ◌∷◌, ◌++◌, slice_set, length-append}
 use Rattle.std.proofs.Math.Seq.{get_or-append_seam}
 use Rattle.std.proofs.lemmas.List.{get_or-set_other, get_or_append_left}
