@@ -1,3 +1,4 @@
+-- Each pass pushes one number, so `all` is as long as the count of passes.
 use Rattle.std.proofs.Common.{◌≡◌, length}
 use Rattle.bench.proofs.words.numbers.Given as goal
 

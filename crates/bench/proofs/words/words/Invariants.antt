@@ -1,3 +1,4 @@
+-- Each pass pushes one word, so `all` is as long as the part of `numbers` that was passed.
 use Rattle.std.proofs.Common.{◌≡◌, length}
 use Rattle.bench.proofs.words.words.Given as goal
 
