@@ -1,5 +1,5 @@
--- Each pass moves one line from those that are left to those that are done, so together they stay all lines.
--- That one look-up is right is what the two clauses of `symbol` say.
+-- Each pass moves one line from those that are left to those that are done, so together these stay the lines
+-- of the input. That one look-up is right is what the two clauses of `symbol` say.
 use Rattle.std.proofs.Common.{◌∙◌, ◌++◌, [], ◌∷◌, sym, ap, append_assoc}
 use Rattle.intaglio_columns.proofs.Names.{lines_of}
 use Rattle.intaglio_columns.proofs.Found.{found-next}

@@ -1,4 +1,4 @@
--- The numbers map each distinct line to itself in the shards, so renumbered symbols lead to the same lines.
+-- The numbers map each distinct line to itself in a shard, so renumbered symbols lead to the same lines.
 use Rattle.std.proofs.Common.{map}
 use Rattle.intaglio_columns.proofs.Shared.{keeps-input}
 use Rattle.intaglio_columns.proofs.interning.Interned.in_shards.Goals as goal

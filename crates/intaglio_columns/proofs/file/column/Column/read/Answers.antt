@@ -1,4 +1,4 @@
--- Codes follow each other without gaps, so that of a row stands as many widths behind the header as rows do.
+-- A row's code stands as many widths behind the header as there are rows before it, and `C` has that width.
 use Rattle.intaglio_columns.proofs.CodesInFile.{read_get}
 use Rattle.intaglio_columns.proofs.file.column.Column.read.Goals as goal
 

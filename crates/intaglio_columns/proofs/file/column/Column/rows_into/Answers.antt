@@ -1,5 +1,5 @@
--- A row goes over the place after those of the rows before it. If there is no place left, it is counted
--- alone, and `overlaid` drops it too.
+-- A row goes over the place after those of the rows before it. If there is no place left, it is only
+-- counted, and `overlaid` drops it too.
 use Rattle.intaglio_columns.proofs.Overlaid.{next_placed, none_placed}
 use Rattle.intaglio_columns.proofs.file.column.Column.rows_into.Goals as goal
 
