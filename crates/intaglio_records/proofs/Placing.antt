@@ -21,6 +21,7 @@ refilled old new es fs is base room few chains =
 
 module _ (base k : ℕ) (e : Entry) (es : List Entry) (lines : List Line) (some : 0 < base) (at : k ≡ e.0 % base)
     (are : AreChains base lines (firsts_of base es) (overflow base es)) where
+  -- the first line of its class takes an entry, if it isn't full
   pub place-first : (x : Line) → length (first_line base k es) < 11 →
       IsLine x (e ∷ first_line base k es) (newest base k (overflow base es)) →
       AreChains base (set lines k x) (firsts_of base (e ∷ es)) (overflow base (e ∷ es))
@@ -28,6 +29,7 @@ module _ (base k : ℕ) (e : Entry) (es : List Entry) (lines : List Line) (some 
       (chains-first base (e.0 % base) lines (firsts_of base es) (firsts_of base (e ∷ es)) (overflow base es) x
       (mod-lt e.0 some) are (λ k other. first-other base k e es other) (rw (first-here base e es lt) is)))
 
+  -- if the first line is full, the newest overflow line takes it, if that isn't full
   pub place-add : (x : Line) (n : ℕ) → n ≡ newest base k (overflow base es) → 0 < n →
       11 ≤ length (first_line base k es) → newest_length k (overflow base es) < 11 →
       ((xs : List Entry) (next : ℕ) → IsLine (get_or lines n no_line) xs next → IsLine x (e ∷ xs) next) →
@@ -44,6 +46,7 @@ module _ (base k : ℕ) (e : Entry) (es : List Entry) (lines : List Line) (some 
         behind = behind-add base c n e lines x os is there (omega (arith, are.size)) put are.behind;
       }))
 
+  -- if both are full, a new overflow line takes it
   pub place-new : (x y : Line) → 11 ≤ length (first_line base k es) → 11 ≤ newest_length k (overflow base es) →
       IsLine x (e ∷ []) (newest base k (overflow base es)) → IsLine y (first_line base k es) (length lines) →
       AreChains base (set (lines ++ x ∷ []) k y) (firsts_of base (e ∷ es)) (overflow base (e ∷ es))
@@ -67,16 +70,19 @@ all-full base c es some within full none =
 
 -- lines that were read
 module _ (lines : Lines) (es : List Entry) (filled : IsFilled lines es) (c : ℕ) where
+  -- the first line of a class has the oldest of its entries, and leads to the newest overflow line
   pub first-is : c < lines.base → (x : Line) → x ≡ get_or lines.lines.items c x →
       IsLine x (first_line lines.base c es) (newest lines.base c (overflow lines.base es))
   first-is within x e = read-line lines.lines.items c x _ _ (omega (arith, within, filled.chains.size)) e
       (filled.chains.firsts_are c within)
 
   module _ (n : ℕ) (is : n ≡ newest lines.base c (overflow lines.base es)) where
+    -- the number to which the first line leads is below the number of lines
     pub newest-in : 0 < lines.base + n → n < length lines.lines.items
     newest-in some =
         omega (arith, is, some, (newest-at lines.base c (overflow lines.base es)).1, filled.chains.size)
 
+    -- if it isn't 0, the line of that number has as many entries as the newest overflow line
     pub other-is : n ≢ 0 → (x : Line) → x ≡ get_or lines.lines.items n x →
         (xs : List Entry) × (older : ℕ) × IsLine x xs older
         × (newest_length c (overflow lines.base es) ≡ length xs)

@@ -64,6 +64,8 @@ ok-or-err (Err _) a b = inr b
 -- what the proofs of calls of records use
 pub ruleset record_rules = (common_steps, are-long, headers-within, strings-bytes, room-is, leb-true, le-leb)
 
+-- what the proof of `clear` uses
 pub ruleset clear_rules = (common_steps, are-long, headers-within, room-is)
 
+-- what the proofs of calls that read, add or drop single strings use
 pub ruleset list_rules = (common_steps, get-string, take_all, length-drop, record-made, length-append, length-map, records-push, take-map)

@@ -1,3 +1,5 @@
+-- The hash that is read and the slot make the entry of record i (`entry-more`). There is a place for it,
+-- because the first i records have i entries (`length-entries`).
 use Rattle.intaglio_records.proofs.Names.{common_steps, entries}
 use Rattle.std.proofs.Common.{arith}
 use Rattle.intaglio_records.proofs.EntryLemmas.{entry-more, length-entries}

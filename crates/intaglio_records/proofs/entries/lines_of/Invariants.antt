@@ -1,3 +1,4 @@
+-- The lines have the entries of the records so far. How many there is room for doesn't change.
 use Rattle.std.proofs.Common.{◌≤◌, ◌+◌, ◌*◌}
 use Rattle.intaglio_records.proofs.Names.{IsFilled, places_of, entries}
 use Rattle.intaglio_records.proofs.entries.lines_of.Given as goal

@@ -1,3 +1,5 @@
+-- The newest entry is that of the last record that is left (`entry-more`), so it was placed by the hash that
+-- is read there. At the end `count` is the smaller one of `n` and the number of records.
 use Rattle.intaglio_records.proofs.Names.{common_steps, IsFilled, entries, position, slot_of}
 use Rattle.std.proofs.Common.{◌∷◌, ◌-◌, arith, ◌∙◌, subst}
 use Rattle.intaglio_records.proofs.EntryLemmas.{entry-more}

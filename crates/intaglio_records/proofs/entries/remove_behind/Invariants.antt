@@ -1,3 +1,4 @@
+-- The lines have the entries of the first `count` records, and `count` goes down to `n` if it began above it.
 use Rattle.std.proofs.Common.{◌≡◌, ◌≤◌, length, min}
 use Rattle.intaglio_records.proofs.Names.{IsFilled, places_of, entries}
 use Rattle.intaglio_records.proofs.entries.remove_behind.Given as goal

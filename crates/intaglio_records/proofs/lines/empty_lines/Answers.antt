@@ -1,3 +1,4 @@
+-- A turn adds an empty line behind the others: the last place has it, and each other the line that it had.
 use Rattle.intaglio_records.proofs.Names.{common_steps, cases_lt, length-append, get_or_append_left}
 use Rattle.std.proofs.Common.{[], ◌∷◌, length, ap, ◌∙◌, arith}
 use Rattle.intaglio_records.proofs.lines.empty_lines.Goals as goal

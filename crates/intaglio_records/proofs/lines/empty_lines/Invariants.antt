@@ -1,3 +1,4 @@
+-- The lines so far are empty, and there is memory for `most` in total.
 use Rattle.std.proofs.Common.{◌≡◌}
 use Rattle.intaglio_records.proofs.Names.{AreEmpty}
 use Rattle.intaglio_records.proofs.lines.empty_lines.Given as goal

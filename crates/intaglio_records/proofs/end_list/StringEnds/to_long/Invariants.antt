@@ -1,3 +1,4 @@
+-- The ends so far were copied, and the copy has long ends and as much room as this list.
 use Rattle.std.proofs.Common.{◌≡◌, take, true}
 use Rattle.intaglio_records.specs.EndList.{largest_end}
 use Rattle.intaglio_records.proofs.end_list.StringEnds.to_long.Given as goal

@@ -1,3 +1,5 @@
+-- The entries of the strings are those of the records (`entries-all`). Of a long index `IsOver` asks nothing
+-- of the room, so it holds of any.
 use Rattle.std.proofs.Common.{rules, true}
 use Rattle.intaglio_records.proofs.EntryLemmas.{entries-all}
 use Rattle.intaglio_records.proofs.RecordLemmas.{are-long}

@@ -1,3 +1,5 @@
+-- The slots that the search gives are a permutation of those of the entries of class and tag. So each leads
+-- to a record, and each number with the hash is among them once (`all-found`).
 use Rattle.std.proofs.Common.{◌≤◌, ◌^◌, length, map, refl, arith, ap}
 use Rattle.intaglio_records.proofs.Names.{concat, length-map, All-permutation, IsFilled, candidates, slots_of, pair_of, entries, IsSlot, begin_of, numbers_with}
 use Rattle.intaglio_records.proofs.EntryLemmas.{entries-all}

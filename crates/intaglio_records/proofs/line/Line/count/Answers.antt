@@ -1,3 +1,5 @@
+-- No entry has the tag 0 (`entry-tag`), and all places behind them have it. So the lowest bit of the mask is
+-- at the number of entries, and there is one, since a line has more tags than entries.
 use Rattle.intaglio_records.proofs.Names.{common_steps, bit_at, trailing_zeros, bit_at-trailing_zeros, cases_order}
 use Rattle.std.proofs.Common.{◌≡◌, ◌<◌, ◌==◌, cond, length, arith, w64, ap, ◌∙◌}
 use Rattle.intaglio_records.proofs.LineLemmas.{entry-tag}

@@ -1,3 +1,4 @@
+-- `bitmask_splat` says what each bit of the mask is. There are sixteen tags, so all bits behind them are 0.
 use Rattle.intaglio_records.proofs.Names.{common_steps, get_or-map, get_or_past, length-map}
 use Rattle.std.proofs.Common.{◌≡◌, eqb, arith, w8, length}
 use Rattle.std.proofs.lemmas.Simd.{bitmask_splat, bit_mask_l}

@@ -1,3 +1,4 @@
+-- A place is free if its tag is 0, whatever slot it has (`line-remove`).
 use Rattle.intaglio_records.proofs.LineLemmas.{line-remove}
 use Rattle.intaglio_records.proofs.line.Line.remove.Goals as goal
 

@@ -1,3 +1,4 @@
+-- The number of first lines is a power of two, so masking with one less gives the remainder (`and_mask`).
 use Rattle.std.proofs.lemmas.Nat.{and_mask}
 use Rattle.intaglio_records.proofs.lines.Lines.class.Goals as goal
 

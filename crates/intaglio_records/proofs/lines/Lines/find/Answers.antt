@@ -1,3 +1,5 @@
+-- The bits are those of the first line's entries with the tag (`picked-fresh`), and all overflow lines of the
+-- class are still to come. By `are-found` these have the slots of class and tag, each once.
 use Rattle.intaglio_records.proofs.Names.{common_steps, first_line, overflow, newest}
 use Rattle.std.proofs.Common.{◌≡◌, ◌<◌, length, arith, mod-lt}
 use Rattle.intaglio_records.proofs.LineLemmas.{tag-some}

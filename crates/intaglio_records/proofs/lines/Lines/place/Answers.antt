@@ -1,3 +1,5 @@
+-- What remains is the case of a first line that isn't full: it takes the entry, and no other line changes
+-- (`place-first`). What `IsFilled` says of the room doesn't depend on which entries there are (`refilled`).
 use Rattle.std.proofs.Common.{◌<◌, refl, arith, mod-lt}
 use Rattle.intaglio_records.proofs.Placing.{place-first, first-is, refilled}
 use Rattle.intaglio_records.proofs.lines.Lines.place.Goals as goal

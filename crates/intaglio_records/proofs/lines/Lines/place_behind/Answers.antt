@@ -1,3 +1,5 @@
+-- A first line that is full leads to the newest overflow line of its class, or nowhere. If that has room, it
+-- takes the entry (`place-add`), and otherwise no line of the class has any, which `place_in_new` requires.
 use Rattle.intaglio_records.proofs.Names.{common_steps, newest, overflow, no_line, IsFilled, Entry, IsLine, Line, Lines}
 use Rattle.std.proofs.Common.{◌≡◌, ℕ, ◌%◌, ◌<◌, List, ◌∷◌, length, get_or, refl, arith, mod-lt}
 use Rattle.intaglio_records.proofs.ChainLemmas.{read-line}

@@ -1,3 +1,5 @@
+-- There are eleven entries for each overflow line and for this one (`all-full`), so there is memory for it.
+-- It has one entry and leads to what was the newest line, and the first line leads to it (`place-new`).
 use Rattle.intaglio_records.proofs.Names.{common_steps, get_or_append_left}
 use Rattle.std.proofs.Common.{◌≡◌, ◌<◌, [], ◌∷◌, length, get_or, refl, ap, ◌∙◌, arith, mod-lt}
 use Rattle.intaglio_records.proofs.Placing.{place-new, all-full, first-is, refilled}

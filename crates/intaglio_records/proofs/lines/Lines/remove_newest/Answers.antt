@@ -1,3 +1,5 @@
+-- The newest entry is in one of three lines (`is-in`). If the first line leads nowhere, it is that one,
+-- because an overflow line has a number above 0.
 use Rattle.std.proofs.Common.{ℕ, ◌<◌, List, ◌∷◌, length, get_or, refl, arith, mod-lt}
 use Rattle.intaglio_records.proofs.Names.{Entry, IsLine, no_line}
 use Rattle.intaglio_records.proofs.ChainLemmas.{read-line}

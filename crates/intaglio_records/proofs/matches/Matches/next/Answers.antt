@@ -1,3 +1,5 @@
+-- Each slot leads to a record, so its header can be read. By `stepped` the first number left is that record's
+-- if it has the hash, and otherwise the same are left. `found` is about its string.
 use Rattle.std.proofs.Common.{◌∷◌, length, refl, arith, ap, ◌∙◌, sym}
 use Rattle.intaglio_records.proofs.MatchLemmas.{found, stepped}
 use Rattle.intaglio_records.proofs.matches.Matches.next.Goals as goal

@@ -1,3 +1,5 @@
+-- All bytes of records are those of the strings and 13 for each (`strings-bytes`). So room for the doubled
+-- number of bytes of strings, and 13 for each string that there is room for, is just what is reserved.
 use Rattle.intaglio_records.proofs.Names.{common_steps}
 use Rattle.std.proofs.Common.{sum_by, arith}
 use Rattle.std.proofs.lemmas.Result.{on_ok_weaker}

@@ -1,3 +1,5 @@
+-- Each dropped record had 13 bytes or more (`headers-behind`), and just 13 more are set aside. So the spare
+-- bytes don't fall, and the room for bytes of strings in total stays (`room-is`).
 use Rattle.intaglio_records.proofs.Names.{common_steps, length-take}
 use Rattle.std.proofs.Common.{arith}
 use Rattle.intaglio_records.proofs.RecordLemmas.{are-long, headers-behind, records-take, room-is}

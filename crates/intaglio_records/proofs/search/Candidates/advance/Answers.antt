@@ -1,3 +1,5 @@
+-- No bit is left, so the slots left are those of overflow lines. The bits of the next one pick its entries
+-- with the tag (`next-line`, `picked-fresh`), and it leads to an older line, of a lower number.
 use Rattle.intaglio_records.proofs.Names.{common_steps, bit_at, bit_at-zero, newest, no_line}
 use Rattle.std.proofs.Common.{length, get_or, ap, ◌∙◌, arith}
 use Rattle.intaglio_records.proofs.ChainLemmas.{newest-at}

@@ -1,3 +1,5 @@
+-- The lowest bit is the first slot left (`picked-first`). Clearing it lowers `most_left`, and so does
+-- `advance`: the line's number counts 12 times, and the next line brings at most eleven bits (`bits-few`).
 use Rattle.intaglio_records.proofs.Names.{common_steps, bit_at, trailing_zeros, bit_at-zero, bit_at-trailing_zeros, bit_at_clear_same, bit_at_clear_other, no_line, overflow_slots, picked}
 use Rattle.std.proofs.Common.{◌≡◌, ◌≢◌, ℕ, ◌-◌, ◌*◌, ◌%◌, ◌^◌, ◌<◌, ◌++◌, get_or, refl, arith, w64, bit_and}
 use Rattle.intaglio_records.specs.Search.{most_left}
