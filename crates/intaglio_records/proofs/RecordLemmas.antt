@@ -67,5 +67,5 @@ pub ruleset record_rules = (common_steps, are-long, headers-within, strings-byte
 -- what the proof of `clear` uses
 pub ruleset clear_rules = (common_steps, are-long, headers-within, room-is)
 
--- what the proofs of calls that read, add or drop single strings use
+-- what the proofs of `string`, `push_hashed` and `truncate` use
 pub ruleset list_rules = (common_steps, get-string, take_all, length-drop, record-made, length-append, length-map, records-push, take-map)

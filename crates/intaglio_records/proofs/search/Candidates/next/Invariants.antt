@@ -1,5 +1,4 @@
--- A line without a bit gives no slot, so the same are left. Each line leads to an older one, so the loop
--- ends.
+-- A line without a bit gives no slot, so the same are left. It leads to an older one, so the loop ends.
 use Rattle.std.proofs.Common.{◌≤◌}
 use Rattle.intaglio_records.proofs.Names.{IsSearch, LeavesAll}
 use Rattle.intaglio_records.specs.Search.{most_left}
