@@ -1,3 +1,4 @@
+-- If the records aren't short and there was no error, the index is long, and so over any room of the list.
 use Rattle.std.proofs.Common.{◌≡◌, false, Ok, Err, Result, sym, ◌∙◌}
 use Rattle.std.specs.Result.{is_err, OnOk}
 use Rattle.intaglio_packed.proofs.Names.{true≢false, record_room_of}

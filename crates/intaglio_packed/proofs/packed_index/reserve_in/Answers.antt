@@ -1,3 +1,5 @@
+-- Either the records stay short with the new room, so four bytes reach it all, or the index was made long
+-- first, and a long one is over any room.
 use Rattle.intaglio_packed.proofs.Names.{common_steps, record_room_of, same_pairs, over_same}
 use Rattle.std.proofs.Common.{◌≡◌, ◌≤◌, ◌-◌, ◌^◌, sym, refl, arith}
 use Rattle.intaglio_packed.proofs.packed_index.reserve_in.Goals as goal

@@ -1,3 +1,4 @@
+-- By the invariant all strings are spellings of the kind, so this one is.
 use Rattle.std.proofs.Common.{length, ◌<◌}
 use Rattle.intaglio_packed.proofs.Names.{get_or_from_slice_get, strings_of}
 use Rattle.intaglio_packed.proofs.packed.Packed.string.Goals as goal

@@ -1,3 +1,5 @@
+-- No string is left, and the bytes of those that were are spare now. So the index is over an empty list with
+-- as much room for records as before, and that is this list (`over_same`).
 use Rattle.intaglio_packed.proofs.Names.{common_steps, record_room_of, same_pairs, over_same}
 use Rattle.std.proofs.Common.{◌≡◌, [], sym, arith}
 use Rattle.intaglio_packed.proofs.packed_index.RecordIndexIndexOfPacked.clear.Goals as goal

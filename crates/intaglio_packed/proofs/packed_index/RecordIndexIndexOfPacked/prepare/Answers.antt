@@ -1,3 +1,5 @@
+-- Only the room for bytes may have grown. With as many spare bytes as before, the index is over the list
+-- still (`over-spare`): this is what `reach_bytes` requires, and what is left after an error.
 use Rattle.intaglio_packed.proofs.PackedLemmas.{over-spare}
 use Rattle.intaglio_packed.proofs.packed_index.RecordIndexIndexOfPacked.prepare.Goals as goal
 

@@ -1,3 +1,5 @@
+-- The pushed value adds one string, with the hash by which the index has placed it (`adds_one`). Its bytes
+-- were spare, so there is as much room for records as before.
 use Rattle.intaglio_packed.proofs.Names.{common_steps, map-append, record_room_of, same_pairs, over_same}
 use Rattle.std.proofs.Common.{◌≡◌, ℕ, List, [], ◌∷◌, ◌++◌, sym, ◌∙◌, arith}
 use Rattle.intaglio_packed.proofs.packed_index.RecordIndexIndexOfPacked.push.Goals as goal

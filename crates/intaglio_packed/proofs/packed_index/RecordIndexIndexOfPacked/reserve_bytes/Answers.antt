@@ -1,3 +1,4 @@
+-- As in `prepare`: with as many spare bytes as before, the index is over the list still (`over-spare`).
 use Rattle.intaglio_packed.proofs.PackedLemmas.{over-spare}
 use Rattle.intaglio_packed.proofs.packed_index.RecordIndexIndexOfPacked.reserve_bytes.Goals as goal
 

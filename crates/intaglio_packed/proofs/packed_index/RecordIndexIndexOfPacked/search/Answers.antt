@@ -1,3 +1,5 @@
+-- The search gives each number with the hash once (`equal-hashes`), and keys are distinct. So the first one
+-- with the key is the only one (`finds`), and if none is left, no string has the key (`ends`).
 use Rattle.intaglio_packed.proofs.Names.{common_steps, length-map, slice_get-map, slice_get_within, Key, IsLeft, hashes_of, strings_of, IsSearching, compared-as, ends, finds, goes_on, none_passed}
 use Rattle.std.proofs.Common.{◌≡◌, ◌<◌, ℕ, List, ◌∷◌, length, map, sym, refl, arith, ◌∙◌, Some, None, true}
 use Rattle.std.proofs.lemmas.Simd.{map-map}

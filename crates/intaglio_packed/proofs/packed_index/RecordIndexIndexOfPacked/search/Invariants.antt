@@ -1,3 +1,5 @@
+-- Of the numbers of strings with the hash some are left. The others were compared, with a step for each, and
+-- have another key.
 use Rattle.std.proofs.Common.{ℕ, List, map}
 use Rattle.intaglio_packed.proofs.Names.{strings_of, AreAll, IsLeft, most_left, IsSearching}
 use Rattle.intaglio_packed.proofs.packed_index.RecordIndexIndexOfPacked.search.Given as goal

@@ -1,3 +1,5 @@
+-- An index over strings with some room is over them with less room too (`gives_up`). Its state is read from
+-- the hashes alone, which are the same.
 use Rattle.std.proofs.Common.{refl}
 use Rattle.intaglio_packed.proofs.PackedLemmas.{gives_up}
 use Rattle.intaglio_packed.proofs.packed_index.RecordIndexIndexOfPacked.stays_over.Goals as goal

@@ -1,3 +1,5 @@
+-- Pairs are the first n if their hashes and their strings are (`same_pairs`). Bytes of dropped strings are
+-- spare now, so there is as much room for records as before, and the index stays over it.
 use Rattle.intaglio_packed.proofs.Names.{common_steps, take-map, record_room_of, same_pairs, over_same}
 use Rattle.std.proofs.Common.{◌≡◌, take, sym, ◌∙◌, arith}
 use Rattle.intaglio_packed.proofs.packed_index.RecordIndexIndexOfPacked.truncate.Goals as goal

@@ -1,3 +1,4 @@
+-- The body does nothing: that each string is a spelling of the kind is the invariant.
 use Rattle.std.proofs.Common.{[], length, ◌<◌}
 use Rattle.intaglio_packed.proofs.Names.{slice_get-get_or, strings_of}
 use Rattle.intaglio_packed.proofs.packed_store.PackedSpellingStore.is_spelling_at.Goals as goal

@@ -1,3 +1,5 @@
+-- The records that are left are the first of all, so their strings and hashes are the first of these
+-- (`take-map`), and all of these strings are still spellings of the kind (`All-take`).
 use Rattle.std.proofs.Common.{ℕ, List, sym}
 use Rattle.intaglio_packed.proofs.Names.{take-map, All-take, strings_of}
 use Rattle.intaglio_packed.proofs.packed_store.PackedStore.truncate.Goals as goal
