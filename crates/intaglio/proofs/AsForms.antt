@@ -26,6 +26,7 @@ module _ {C : Type 0} (key : C → Key) (spelling : C → List ℕ) (adds : List
   form-by None old new (Err (intern_error.Memory e)) h = out-form copies old new h
   form-by (Some i) old new r h = h
 
+  -- an interning that adds such a content is that of a form with the key and the spelling
   pub interns-form : (old new : State C) (r : Result ℕ InternError) →
       InternsValue key adds copies old k r new → InternsForm key spelling old k w r new
   interns-form old new r h = form-by (first key old.contents k) old new r h

@@ -13,6 +13,7 @@ fresh ks k more apart = first-none ks k (λ j lt same.
     ∙ sym (get_or-append_seam ks k more [])))
 
 module _ {C : Type 0} (key : C → Key) where
+  -- contents that are distinct and new are stored behind the others in their order, and numbered on
   pub numbered_from : (held cs : List C) → AreDistinct (map key (held ++ cs))
       → (interned_all key held cs ≡ held ++ cs)
       × (issue_from key held cs ≡ numbers_from (length held) (length cs))

@@ -1,3 +1,5 @@
+-- The costs say which keys are hashed and compared, and how many symbols are placed. Each event that the law
+-- excludes would add a key or a placement too many, or a key that isn't allowed.
 use Rattle.intaglio.proofs.Costly.{searches-are-cheap, internings_are_cheap}
 use Rattle.intaglio.proofs.laws.cost_law.Goals as goal
 

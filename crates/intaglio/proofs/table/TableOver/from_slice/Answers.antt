@@ -1,3 +1,5 @@
+-- Distinct forms are all new, so they are stored in their order, and the symbols that the batch issues are
+-- the positions (`numbered`). The batch says that each is found by its key.
 use Rattle.std.proofs.Common.{◌≡◌, ◌∙◌, ap, map, length, []}
 use Rattle.intaglio.proofs.Names.{length-map, numbers_from, issue_from}
 use Rattle.intaglio_interner.proofs.Each.{keys-seen}

@@ -1,3 +1,5 @@
+-- A form adds a content with its own key and spelling (`adds_copy`), so what the core says of the value that
+-- is added is what `InternsForm` says of the form (`interns-form`).
 use Rattle.intaglio.proofs.AsForms.{interns-form}
 use Rattle.intaglio.proofs.table.TableOver.get_or_intern.Goals as goal
 
