@@ -53,9 +53,11 @@ maps_still held more lists maps are = cc
 
 -- what is held after the lists so far and one more, and the maps
 module _ (lists : List (List (List ℕ))) (ws : List (List ℕ)) where
+  -- the union with one more list is what is held after this list is interned into that of the others
   pub union_next : union (lists ++ ws ∷ []) ≡ interned_all string_key (union lists) ws
   union_next = grind (arith, common_steps, interned_all-append)
 
+  -- maps of the lists so far, and that of one more list, are maps to the union with it
   pub maps_next : (maps : List (List ℕ)) (symbols : List ℕ) → AreMaps lists (union lists) maps →
       IsMap ws (union (lists ++ ws ∷ [])) symbols
       → AreMaps (lists ++ ws ∷ []) (union (lists ++ ws ∷ [])) (maps ++ symbols ∷ [])

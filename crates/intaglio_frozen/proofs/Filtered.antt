@@ -45,11 +45,13 @@ module _ (p : List ℕ → Bool) where
       let now = kept w held _ (there w held) in
       grind (arith, common_steps, filter_interned (interned string_key held w) ws)
 
+  -- what passes of lists that are joined is what passes of each, joined
   pub filter_joined : (lists : List (List (List ℕ))) →
       filter p (flat_map (λ ws. ws) lists) ≡ flat_map (λ ws. ws) (map (filter p) lists)
   filter_joined [] = refl
   filter_joined (ws ∷ lists) = grind (arith, common_steps, filter_joined lists)
 
+  -- what passes of a union is the union of what passes of each list
   pub filter-union : (lists : List (List (List ℕ))) → filter p (union lists) ≡ union (map (filter p) lists)
   filter-union lists = filter_interned [] (flat_map (λ ws. ws) lists)
       ∙ ap (interned_all string_key []) (filter_joined lists)

@@ -42,6 +42,7 @@ module _ (P : List ℕ → ℕ → Type 0) where
   abbrev pub Continues : List (List ℕ) → List (List ℕ) → List ℕ → Type 0
   Continues all left before = (ns : List ℕ) → AreFirst P left ns → AreFirst P all (before ++ ns)
 
+  -- one more number, at the place of the next string
   pub more : (all : List (List ℕ)) (ns : List ℕ) (i n : ℕ) (string : List ℕ) → slice_get all i ≡ Some string →
       i < length ns → P string n
       → Continues all (drop i all) (take i ns) → Continues all (drop (i + 1) all) (take (i + 1) (set ns i n))
@@ -54,18 +55,21 @@ module _ (P : List ℕ → ℕ → Type 0) where
   at_end all ns i (inl end) = rw (drop_all i all end) (no_strings (drop i ns))
   at_end all ns i (inr end) = rw (drop_all i ns end) tt
 
+  -- in the end they are the numbers of all strings, as far as both lists go
   pub all_first : (all : List (List ℕ)) (ns : List ℕ) (i : ℕ) → (length all ≤ i) ⊎ (length ns ≤ i) →
       Continues all (drop i all) (take i ns) → AreFirst P all ns
   all_first all ns i ends continues = rw take-append-drop at (continues (drop i ns) (at_end all ns i ends))
 
 -- the same of numbers that are fixed
 module _ (f : List ℕ → ℕ) (all : List (List ℕ)) (ns : List ℕ) (i : ℕ) where
+  -- one more number, which is that of the next string
   pub mapped : (n : ℕ) (string : List ℕ) → slice_get all i ≡ Some string → i < length ns → n ≡ f string →
       take i ns ≡ map f (take i all) → take (i + 1) (set ns i n) ≡ map f (take (i + 1) all)
   mapped n string there inside is before =
       take_more_set ns i n inside ∙ (λ j. before j ++ is j ∷ []) ∙ sym (map_push f (take i all) string)
       ∙ ap (map f) (sym (take_there all i string there))
 
+  -- in the end they are those of all strings
   pub all_mapped : length all ≤ i → length ns ≡ length all → take i ns ≡ map f (take i all) → ns ≡ map f all
   all_mapped end places are = sym (take_all i ns (omega (arith, end, places))) ∙ are
       ∙ ap (map f) (take_all i all end)

@@ -49,4 +49,5 @@ map-push n counts maps count numbers same = absurd (omega (arith, same))
 pub maps-join : ShardMapsJoin
 maps-join olds news maps are = behind_front [] olds news maps are
 
+-- what the proof of the law on maps of shards uses
 pub ruleset shard_maps = (maps-join)

@@ -50,10 +50,12 @@ HavePlaces count strings shards number i numbers = (j : ℕ) (v : List ℕ) → 
 module _ (count : ℕ) (strings : List (List ℕ)) (shards : List ℕ) (are : shards ≡ map (shard_of count) strings)
     (number : ℕ) where
   module _ (i : ℕ) (w : List ℕ) (at : slice_get strings i ≡ Some w) where
+    -- a string of this shard comes behind the strings so far
     pub far_in : get_or shards i 0 ≡ number →
         so_far count strings number (i + 1) ≡ so_far count strings number i ++ w ∷ []
     far_in is = grind (arith, common_steps, next_in count strings shards are i number w at is)
 
+    -- a string of another one changes nothing of them
     pub far_out : (get_or shards i 0 ≡ number → ⊥) →
         so_far count strings number (i + 1) ≡ so_far count strings number i
     far_out not = rw (next_out count strings shards are i number w at not) refl
@@ -97,6 +99,7 @@ module _ (count : ℕ) (strings : List (List ℕ)) (shards : List ℕ) (are : sh
       so_far count strings number i ≡ joined (first_shards count strings (number + 1))
   all_far i all = grind (arith, common_steps)
 
+  -- in the end there are as many as this shard and all before it have
   pub far_length : (i : ℕ) → i ≡ length strings →
       length (so_far count strings number i) ≡ length (joined (first_shards count strings (number + 1)))
   far_length i all = ap length (all_far i all)

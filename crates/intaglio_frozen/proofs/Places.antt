@@ -211,12 +211,14 @@ ends_from bs xs at n p (suc k) f h l w =
     rw (many, take-add 4 (4 * k) (drop p bs), drop-drop 4 p bs, same, ← here, ← rest) refl
 
 module _ (bs : List ℕ) (f : AreBytes bs) (b : IsBlock bs) where
+  -- the text is the strings, one behind the other
   pub text_is : text_section bs ≡ concat (strings bs)
   unfolding strings
   text_is =
       sym (text_from 0 (length bs - text_at bs) (drop (text_at bs) bs) (ends bs) b.ends
       (length-drop (text_at bs) bs))
 
+  -- the section of ends is the ends of the strings, in four bytes each
   pub ends_are : ends_section bs ≡ end_bytes 0 (strings bs)
   unfolding strings
   ends_are =
@@ -226,10 +228,12 @@ module _ (bs : List ℕ) (f : AreBytes bs) (b : IsBlock bs) where
       let size : pilots_at bs - ends_at bs ≡ 4 * count bs = omega arith in
       ap (λ m. take m (drop (ends_at bs) bs)) size ∙ sym all
 
+  -- an identity by the two sections is one by the strings
   pub to_strings : (is_text : Bool) (id : DictionaryId) →
       IsIdOf is_text (count bs) (ends_section bs) (text_section bs) id → IsIdOfStrings is_text (strings bs) id
   to_strings is_text id h = rw (strings_length bs, ← ends_are, ← text_is) h
 
+  -- an identity by the strings is one by the two sections
   pub of_strings : (is_text : Bool) (id : DictionaryId) → IsIdOfStrings is_text (strings bs) id →
       IsIdOf is_text (count bs) (ends_section bs) (text_section bs) id
   of_strings is_text id h = rw (strings_length bs, ← ends_are, ← text_is) at h

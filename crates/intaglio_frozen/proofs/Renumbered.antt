@@ -12,6 +12,7 @@ module _ (new : List (List ℕ)) (few : length new ≤ missing) where
       let rest : decode new numbers ≡ map Some old = cc in same-string old numbers c rest
   same-string old numbers c is = cc
 
+  -- renumbered codes have the strings that the codes had
   pub renumbered : (old : List (List ℕ)) (numbers codes : List ℕ) → IsMap old new numbers →
       decode new (renumber numbers codes) ≡ decode old codes
   renumbered old numbers [] is = refl
@@ -32,6 +33,7 @@ module _ (new : List (List ℕ)) (distinct : Distinct string_key new) where
   pub apart : (a b : ℕ) (w : List ℕ) → a < b → slice_get new a ≡ Some w → slice_get new b ≡ Some w → ⊥
   apart a b w below one other = grind (arith, common_steps, gets, distinct a b [] below)
 
+  -- so two maps to these strings are equal
   pub one_map : (old : List (List ℕ)) (numbers others : List ℕ) → IsMap old new numbers →
       IsMap old new others → numbers ≡ others
   one_map [] [] [] one other = refl

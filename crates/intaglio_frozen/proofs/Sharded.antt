@@ -123,14 +123,17 @@ module _ (shards : List (List (List ℕ))) (starts : List ℕ) (from : starts �
       found_in (shard_of (length shards)) w 0 shards s ws (λ t us there i v stands.
       omega (arith, placed t us there i v stands)) (rw (← all) (omega arith)) at
 
+  -- if it isn't in its shard, it isn't among all
   pub found_none : None ≡ first string_key ws (string_key w) →
       None ≡ first string_key (joined shards) (string_key w)
   found_none e = ap (option_map (λ i. length (joined (take s shards)) + i)) e ∙ sym found
 
   module _ (n i : ℕ) (begins : n ≡ get_or starts s n) (e : Some i ≡ first string_key ws (string_key w)) where
+    -- if it is, it is among all, counted on from where the shard begins
     pub found_some : Some (n + i) ≡ first string_key (joined shards) (string_key w)
     found_some = rw (found, ← e, start_read starts shards s n ws from at begins) refl
 
+    -- which is the number of a string
     pub found_below : n + i < length (joined shards)
     found_below =
         omega (

@@ -1,3 +1,4 @@
+-- The form of the next string has its spelling, and needs no more bytes than it has (`from_string`).
 use Rattle.intaglio_frozen.proofs.Names.{common_steps}
 use Rattle.std.proofs.Common.{◌≡◌, ◌∙◌, ◌++◌, [], ◌∷◌, rules, arith}
 use Rattle.intaglio_frozen.proofs.HashedAhead.{take_there}

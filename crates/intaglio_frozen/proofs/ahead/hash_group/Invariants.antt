@@ -1,3 +1,5 @@
+-- Whatever hashes of the strings that are left come behind those so far, together they are the hashes of the
+-- strings from `place` on.
 use Rattle.std.proofs.Common.{◌≡◌, length, take, drop}
 use Rattle.intaglio_frozen.proofs.HashedAhead.{Continues}
 use Rattle.intaglio_frozen.proofs.ahead.hash_group.Given as goal

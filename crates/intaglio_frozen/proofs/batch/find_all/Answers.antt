@@ -1,3 +1,5 @@
+-- The hash at `used` is that of the string at `place`, and those behind it are of the strings behind
+-- (`first`). So `find_hashed` finds what `find` does.
 use Rattle.std.proofs.Common.{◌≡◌, ◌∙◌, map, rules}
 use Rattle.intaglio_frozen.specs.LookUp.{find, hash}
 use Rattle.intaglio_frozen.proofs.HashedAhead.{first}

@@ -1,3 +1,4 @@
+-- What was found so far is what look-ups find, and the hashes not yet used are those of the next strings.
 use Rattle.std.proofs.Common.{◌≡◌, ◌≤◌, length, map, take, drop, vec_len, vec_capacity}
 use Rattle.intaglio_frozen.proofs.Names.{AreFirst}
 use Rattle.intaglio_frozen.specs.LookUp.{find, hash}

@@ -1,3 +1,4 @@
+-- Each string from `start` to before `start + k` is found at its symbol.
 use Rattle.intaglio_frozen.proofs.Names.{AreFoundFrom}
 use Rattle.intaglio_frozen.proofs.checking.first_misplaced.Given as goal
 

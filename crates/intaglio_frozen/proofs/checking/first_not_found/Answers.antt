@@ -1,3 +1,5 @@
+-- The strings found in a batch follow those before it (`found_further`): all of the batch, or those before
+-- the first that isn't found, which then is the first of all.
 use Rattle.intaglio_frozen.proofs.Names.{common_steps}
 use Rattle.std.proofs.Common.{◌≡◌, ◌++◌, length, take, drop, arith}
 use Rattle.intaglio_frozen.proofs.Found.{found_further}

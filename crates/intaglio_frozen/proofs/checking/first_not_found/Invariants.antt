@@ -1,3 +1,4 @@
+-- Each string before the batch is found at its symbol. A batch has at least one string, so the loop ends.
 use Rattle.std.proofs.Common.{◌-◌, ◌≤◌, length}
 use Rattle.intaglio_frozen.specs.Layout.{strings}
 use Rattle.intaglio_frozen.proofs.Names.{AreFoundBelow}

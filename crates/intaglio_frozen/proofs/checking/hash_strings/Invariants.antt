@@ -1,3 +1,4 @@
+-- The hashes so far are those of the strings from `start` on.
 use Rattle.std.proofs.Common.{ℕ, ◌+◌, ◌<◌, get_or}
 use Rattle.intaglio_frozen.proofs.Names.{IsHashAt}
 use Rattle.intaglio_frozen.proofs.checking.hash_strings.Given as goal

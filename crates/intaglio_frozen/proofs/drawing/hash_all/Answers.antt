@@ -1,3 +1,4 @@
+-- A turn writes the length and the string, which is one step of the fold in `hash_all` (`fold_more`).
 use Rattle.std.proofs.Common.{◌≡◌, ◌∙◌, ap, get_or}
 use Rattle.std.specs.Hash.DefaultHasher.{write}
 use Rattle.intaglio_frozen.proofs.Names.{fold_more, slice_get_within, get_or_from_slice_get, after_string}

@@ -1,3 +1,4 @@
+-- The count only grows, so it stays at `u64::MAX` once it is there, as the smaller of both does.
 use Rattle.std.proofs.Common.{ap, length, arith}
 use Rattle.intaglio_frozen.proofs.Names.{sum_by_more, slice_get_within, get_or_from_slice_get}
 use Rattle.intaglio_frozen.proofs.freezing.byte_count.Goals as goal

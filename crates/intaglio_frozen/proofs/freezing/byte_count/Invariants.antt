@@ -1,3 +1,4 @@
+-- The count is the number of bytes of the strings so far, or `u64::MAX` if that is less.
 use Rattle.std.proofs.Common.{◌≡◌, ◌-◌, ◌^◌, length, take, min, sum_by}
 use Rattle.intaglio_frozen.proofs.freezing.byte_count.Given as goal
 

@@ -1,3 +1,5 @@
+-- `IsRefusal` allows `NoPlaces` for allowed strings of which no two are equal. They were checked, and
+-- `freeze_by` returns nothing only if no two are equal.
 use Rattle.intaglio_frozen.proofs.freezing.freeze_at.Goals as goal
 
 pub returns-in-None-clause-err : goal.returns-in-None-clause-err

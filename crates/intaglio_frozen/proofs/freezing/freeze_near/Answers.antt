@@ -1,3 +1,5 @@
+-- A pair of keys that gives no bytes leaves a group no places, and shows that no two strings are equal. The
+-- loop only ends after all eight.
 use Rattle.intaglio_frozen.proofs.Names.{common_steps, LacksPlaces}
 use Rattle.std.proofs.Common.{arith}
 use Rattle.intaglio_frozen.proofs.freezing.freeze_near.Goals as goal

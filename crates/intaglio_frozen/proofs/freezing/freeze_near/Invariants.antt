@@ -1,3 +1,4 @@
+-- No pair of keys so far has places for all groups, and if one was tried, no two strings are equal.
 use Rattle.std.proofs.Common.{ℕ, ◌<◌}
 use Rattle.intaglio_frozen.proofs.Names.{HasNoEqual, LacksPlaces}
 use Rattle.intaglio_frozen.proofs.freezing.freeze_near.Given as goal

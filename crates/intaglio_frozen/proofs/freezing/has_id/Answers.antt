@@ -1,3 +1,5 @@
+-- The ends and the text of a block are those of its strings. So the identity of the strings is that of the
+-- bytes, and equal hashes in the header are enough (`of_header`).
 use Rattle.std.proofs.Common.{◌∙◌, eqb-true}
 use Rattle.intaglio_frozen.proofs.Places.{AreBytes, of_header}
 use Rattle.intaglio_frozen.proofs.freezing.has_id.Goals as goal

@@ -1,3 +1,4 @@
+-- The strings so far are those of the list.
 use Rattle.std.proofs.Common.{◌≡◌, ℕ, ◌<◌, slice_get}
 use Rattle.intaglio_frozen.specs.Layout.{strings}
 use Rattle.intaglio_frozen.proofs.freezing.has_strings.Given as goal

@@ -1,3 +1,5 @@
+-- The tests are the parts of `IsFrozen` except for UTF-8. The strings are those of the list, and these are
+-- UTF-8 if the kind is text.
 use Rattle.std.proofs.Common.{rules, ◌≡◌, refl, sym, ◌∙◌}
 use Rattle.intaglio_frozen.specs.Layout.{kind as kind_of, strings}
 use Rattle.intaglio_frozen.proofs.Names.{number_of, text_kind}

@@ -1,3 +1,4 @@
+-- A string that isn't UTF-8 is enough to show that not all are.
 use Rattle.intaglio_frozen.proofs.from_string.are_texts.Goals as goal
 
 pub returns-in-Err : goal.returns-in-Err

@@ -1,3 +1,4 @@
+-- The state has the two keys, so the next hash is that of the next string under them (`found_more`).
 use Rattle.std.proofs.Common.{◌≡◌, get_or, rules}
 use Rattle.intaglio_frozen.proofs.Names.{slice_get_within, get_or_from_slice_get, hash_under}
 use Rattle.intaglio_frozen.proofs.Found.{found_more}

@@ -1,3 +1,4 @@
+-- The hashes so far are those of the first strings, and there is room for the others.
 use Rattle.std.proofs.Common.{◌≡◌, ◌≤◌, length, map, take, vec_len, vec_capacity}
 use Rattle.intaglio_frozen.proofs.Names.{hash_under}
 use Rattle.intaglio_frozen.proofs.hashing.hashes.Given as goal

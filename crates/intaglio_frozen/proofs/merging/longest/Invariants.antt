@@ -1,3 +1,4 @@
+-- Each length counts for at most 2^32, so the greatest is at most that.
 use Rattle.std.proofs.Common.{◌≤◌, ◌^◌}
 use Rattle.intaglio_frozen.proofs.merging.longest.Given as goal
 

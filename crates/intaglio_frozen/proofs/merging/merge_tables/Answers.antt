@@ -1,3 +1,5 @@
+-- Absorbing one more list makes the union of all so far, and the earlier maps stay maps (`union_next`,
+-- `maps_next`). If the table overflows on the way, the union of all lists would too (`union_over`).
 use Rattle.intaglio_frozen.proofs.Names.{common_steps, take_at_read, map-append, map-id, take-map, err_from_is_err_and, IfOverflow, interned_all, string_key, union, AreMaps, IsMap}
 use Rattle.std.proofs.Common.{◌≡◌, ◌∙◌, ◌+◌, ◌^◌, ◌<◌, ◌++◌, [], ◌∷◌, ap, length, map, refl, subst, sym, take, rules, arith}
 use Rattle.intaglio_frozen.proofs.Absorbed.{if_overflow, maps_next, union_next, union_over}

@@ -1,3 +1,4 @@
+-- All numbers are ends exactly if those that are left are ends behind the last one that was read.
 use Rattle.std.proofs.Common.{◌↔◌, ◌+◌, ◌-◌, ◌*◌}
 use Rattle.intaglio_frozen.proofs.Names.{AreEnds, numbers_at}
 use Rattle.intaglio_frozen.proofs.reader.are_ends.Given as goal

@@ -1,3 +1,4 @@
+-- Taking places doesn't change how many words there are. A turn clears a bit of `left`, so the loop ends.
 use Rattle.std.proofs.Common.{◌≡◌, length}
 use Rattle.intaglio_frozen.proofs.searching.take_first.Given as goal
 

@@ -1,3 +1,5 @@
+-- The two numbers in front of the sets are written first, and all sets are left (`written_behind`). A turn
+-- writes the bytes of the first that is left (`next_item`).
 use Rattle.std.proofs.Common.{◌∙◌, ◌++◌, length, arith, flat_map}
 use Rattle.intaglio_frozen.proofs.Names.{with_keys, number_bytes, set_bytes}
 use Rattle.intaglio_frozen.proofs.Hashed.{next_item, written_behind}

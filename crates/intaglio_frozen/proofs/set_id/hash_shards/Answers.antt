@@ -1,3 +1,5 @@
+-- The two numbers in front of the shards are written first, and all shards are left (`written_behind`). A
+-- turn writes the bytes of the first that is left (`next_item`).
 use Rattle.std.proofs.Common.{◌∙◌, ◌++◌, length, get_or, ap, false, arith, flat_map}
 use Rattle.intaglio_frozen.proofs.Names.{with_keys, DictionaryId, first_kind, number_bytes, shard_bytes}
 use Rattle.std.specs.Hash.DefaultHasher.{write}

@@ -1,3 +1,4 @@
+-- Writing twice is writing both, one behind the other (`write_behind`).
 use Rattle.std.proofs.Common.{◌∙◌}
 use Rattle.std.specs.Hash.DefaultHasher.{write}
 use Rattle.intaglio_frozen.proofs.Names.{number_bytes}

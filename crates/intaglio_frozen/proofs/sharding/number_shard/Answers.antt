@@ -1,3 +1,5 @@
+-- A string of the shard comes behind those so far, so their number is its place (`far_in`), and others change
+-- nothing (`far_out`). There are at most as many as in the list, so `next` doesn't overflow (`far_few`).
 use Rattle.intaglio_frozen.proofs.Names.{common_steps, length-map, slice_get-get_or}
 use Rattle.std.proofs.Common.{◌≡◌, ◌∙◌, ◌<◌, [], ◌∷◌, ◌+◌, ap, arith, get_or, length, length-append, sym}
 use Rattle.intaglio_frozen.specs.Shards.{shard_of}

@@ -1,3 +1,5 @@
+-- Each string's shard is below `count`, so after the last shard all strings have their places, and numbers
+-- that lead to the strings are a map (`numbered_map`).
 use Rattle.std.proofs.Common.{◌≡◌, ◌∙◌, ap, arith, length}
 use Rattle.intaglio_frozen.proofs.Names.{length-map}
 use Rattle.intaglio_frozen.specs.Shards.{shard_of}

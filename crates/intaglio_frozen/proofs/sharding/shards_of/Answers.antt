@@ -1,3 +1,4 @@
+-- A turn adds the shard of the next string (`take_there`), which `shard_of` says is below `count`.
 use Rattle.intaglio_frozen.proofs.Names.{common_steps}
 use Rattle.std.proofs.Common.{◌≡◌, ◌∙◌, ◌<◌, ◌++◌, [], ◌∷◌, rules, arith}
 use Rattle.intaglio_frozen.specs.Shards.{shard_of}

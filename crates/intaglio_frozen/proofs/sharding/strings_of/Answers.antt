@@ -1,3 +1,4 @@
+-- `shards` says whether the next string is in this one, and only then is it added (`next_in`, `next_out`).
 use Rattle.intaglio_frozen.proofs.Names.{common_steps, length-map, map-append, slice_get-get_or}
 use Rattle.std.proofs.Common.{◌≡◌, ◌∙◌, ◌++◌, [], ◌∷◌, ap, arith, get_or, length}
 use Rattle.intaglio_frozen.specs.Shards.{shard_of}

@@ -1,3 +1,5 @@
+-- A pilot that fails leaves a string without a place (`has_places`). That this is so of all 2^16 is what
+-- `IsStuck` says, for the pilots of the groups placed before.
 use Rattle.std.proofs.Common.{◌∙◌, ℕ, inl, inr, get_or, arith}
 use Rattle.intaglio_frozen.proofs.Names.{cases_eq}
 use Rattle.intaglio_frozen.proofs.stuck.has_pilot.Goals as goal

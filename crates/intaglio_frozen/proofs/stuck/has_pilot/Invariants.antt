@@ -1,3 +1,4 @@
+-- Under each pilot so far some string of the group has no place. No mark but `TAKEN` is above their number.
 use Rattle.std.proofs.Common.{◌≡◌, ℕ, ◌<◌, length, get_or}
 use Rattle.intaglio_frozen.proofs.Names.{HasNoPlace, AreMarked}
 use Rattle.intaglio_frozen.proofs.stuck.has_pilot.Given as goal

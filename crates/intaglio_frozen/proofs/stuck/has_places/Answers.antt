@@ -1,3 +1,5 @@
+-- The mark says why a place isn't free: a group before has it (`place_taken`), or an earlier string of this
+-- group (`place_tried`). Marks of other pilots are lower numbers, so they needn't be removed.
 use Rattle.std.proofs.Common.{sym}
 use Rattle.intaglio_frozen.proofs.Marked.{place_taken, place_tried}
 use Rattle.intaglio_frozen.proofs.stuck.has_places.Goals.{then-marks-place-via-then-marks-place, then-marks-place-via-else-marks-place+then-marks-place-2}

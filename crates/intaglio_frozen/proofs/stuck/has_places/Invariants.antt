@@ -1,3 +1,4 @@
+-- A place with the mark of this pilot is that of a string of the group that was tried so far.
 use Rattle.std.proofs.Common.{◌≡◌, ℕ, length}
 use Rattle.intaglio_frozen.proofs.Names.{AreMarked}
 use Rattle.intaglio_frozen.proofs.Marked.{AreTried}

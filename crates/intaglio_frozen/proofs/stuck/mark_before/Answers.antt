@@ -1,3 +1,5 @@
+-- The place that a turn marks is that of string i under the pilot of its group, which `is_before` says is
+-- placed before this one (`marked_more`).
 use Rattle.intaglio_frozen.proofs.Names.{common_steps, IsBefore, place_under}
 use Rattle.std.proofs.Common.{◌∙◌, ℕ, ap, get_or, subst, sym, arith}
 use Rattle.intaglio_frozen.proofs.Marked.{marked_more}

@@ -1,3 +1,4 @@
+-- Each place marked so far is that of a string whose group is placed before this one.
 use Rattle.std.proofs.Common.{◌≡◌, length, get_or}
 use Rattle.intaglio_frozen.proofs.Names.{AreMarked}
 use Rattle.intaglio_frozen.proofs.stuck.mark_before.Given as goal

@@ -1,3 +1,4 @@
+-- The members so far are strings of the group, in order, and the next one is behind them all.
 use Rattle.std.proofs.Common.{ℕ, ◌<◌, length, get_or}
 use Rattle.intaglio_frozen.proofs.Names.{AreMembers}
 use Rattle.intaglio_frozen.proofs.stuck.members_of.Given as goal

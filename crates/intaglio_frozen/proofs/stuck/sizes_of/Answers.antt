@@ -1,3 +1,5 @@
+-- A string counts for its own group and no other (`counted_more`). No group has more strings than there are,
+-- so no size overflows.
 use Rattle.intaglio_frozen.proofs.Names.{common_steps, get_or_default, length-take-le, count_by-le-length}
 use Rattle.std.proofs.Common.{◌∙◌, ◌+◌, ◌<◌, length-set, take, arith}
 use Rattle.intaglio_frozen.proofs.Marked.{is_in, counted_more}

@@ -1,3 +1,4 @@
+-- The size of each group is how many of the strings so far are in it.
 use Rattle.std.proofs.Common.{◌≡◌, ℕ, ◌<◌, length, get_or, take, count_by}
 use Rattle.intaglio_frozen.proofs.Names.{groups_for}
 use Rattle.intaglio_frozen.proofs.Marked.{is_in}

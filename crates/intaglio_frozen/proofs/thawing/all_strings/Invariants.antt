@@ -1,3 +1,4 @@
+-- The strings so far, and behind them those that are left, are all strings.
 use Rattle.std.proofs.Common.{◌≡◌, ◌++◌, map}
 use Rattle.intaglio_frozen.proofs.thawing.all_strings.Given as goal
 

@@ -1,3 +1,4 @@
+-- Of the places so far `used` counts those that have a symbol, and the others have the tag 0.
 use Rattle.std.proofs.Common.{◌≡◌, ℕ, ◌<◌, ◌≤◌}
 use Rattle.intaglio_frozen.proofs.Names.{symbol_of, tag_of, no_symbol, used_below}
 use Rattle.intaglio_frozen.proofs.block.Block.has_unused.Given as goal

@@ -1,3 +1,5 @@
+-- A look-up finds only the symbol of the string's place, if it finds any (`IsCandidate`). If that is i, its
+-- string is the sought one itself (`found_same`), and otherwise i isn't found (`found_other`).
 use Rattle.std.proofs.Common.{◌≡◌, [], get_or, ◌∙◌}
 use Rattle.intaglio_frozen.proofs.Names.{eqb-true, eqb-false, slice_get-get_or}
 use Rattle.intaglio_frozen.proofs.Found.{found_same, found_other}

@@ -1,3 +1,4 @@
+-- What lies between two ends of characters in UTF-8 is UTF-8, and so each string is (`texts_between`).
 use Rattle.std.proofs.Common.{◌≡◌, drop, ◌∙◌, IsUtf8}
 use Rattle.intaglio_frozen.proofs.Places.{texts_between}
 use Rattle.intaglio_frozen.proofs.Names.{text_at}

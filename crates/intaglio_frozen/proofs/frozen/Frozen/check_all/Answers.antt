@@ -1,3 +1,4 @@
+-- By the invariant strings are found at their symbols, so look-ups find first positions (`found_first`).
 use Rattle.std.proofs.Common.{◌≡◌}
 use Rattle.intaglio_frozen.proofs.Found.{found_first}
 use Rattle.intaglio_frozen.proofs.frozen.Frozen.check_all.Goals as goal

@@ -1,3 +1,5 @@
+-- By the invariant each string is found at its symbol. So a look-up finds the first position
+-- (`find_is_first`), and no two strings are equal (`all_distinct`).
 use Rattle.std.proofs.Common.{◌∙◌}
 use Rattle.intaglio_frozen.proofs.Found.{find_is_first, all_distinct}
 use Rattle.intaglio_frozen.proofs.frozen.Frozen.check_interned.Goals as goal

@@ -1,3 +1,5 @@
+-- Each test is one part of `IsFrozen`. Bytes that pass all are a frozen table, and a test that fails shows
+-- the fault that its error names.
 use Rattle.std.proofs.Common.{rules, ◌≡◌, false, true, inr, subst}
 use Rattle.intaglio_frozen.proofs.Names.{HasId, IsFrozen}
 use Rattle.intaglio_frozen.proofs.frozen.Frozen.open.Goals as goal

@@ -1,3 +1,5 @@
+-- The strings are distinct, so a table that interns them has them all in their order (`all_interned`). There
+-- are at most 2^32, which is its limit, so none is refused (`no_overflow`).
 use Rattle.std.proofs.Common.{◌≡◌, ◌∙◌, ◌^◌, ◌<◌, [], length, map, sym, rules, map-id}
 use Rattle.intaglio_frozen.proofs.Names.{err_from_is_err_and, IfOverflow, interned_all, packed_key}
 use Rattle.intaglio_frozen.proofs.Distinct.{all_interned, no_overflow}

@@ -1,3 +1,4 @@
+-- The ends may be any numbers, but a range that `get` returns is part of the text (`part_found`).
 use Rattle.intaglio_frozen.proofs.Names.{common_steps}
 use Rattle.std.proofs.Common.{arith}
 use Rattle.intaglio_frozen.proofs.Places.{part_found}

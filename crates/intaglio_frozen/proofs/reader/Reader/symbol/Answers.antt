@@ -1,3 +1,5 @@
+-- A look-up reads one place (`find_by`). If the place has another tag, nothing is found (`at_other`), and
+-- otherwise at most its symbol (`at_same`).
 use Rattle.std.proofs.Common.{◌%◌, ◌∙◌}
 use Rattle.intaglio_frozen.proofs.Found.{find_by, at_other, at_same}
 use Rattle.intaglio_frozen.proofs.reader.Reader.symbol.Goals as goal

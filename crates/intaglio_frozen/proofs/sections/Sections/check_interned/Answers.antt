@@ -1,3 +1,5 @@
+-- If the sections are those of the bytes, the reader finds what a look-up does, and in a frozen table that is
+-- the first position of the string (`find_is_first`).
 use Rattle.std.proofs.Common.{◌∙◌}
 use Rattle.intaglio_frozen.proofs.Found.{find_is_first}
 use Rattle.intaglio_frozen.proofs.sections.Sections.check_interned.Goals as goal

@@ -1,3 +1,5 @@
+-- Equal strings belong to one shard, so the first one among all is in the shard that is searched, at its
+-- place there, counted on from where the shard begins (`found_some`).
 use Rattle.std.proofs.Common.{◌∙◌, Some, ap, arith, sym}
 use Rattle.intaglio_frozen.proofs.Sharded.{found_some}
 use Rattle.intaglio_frozen.proofs.shards.Shards.check_interned.Goals as goal

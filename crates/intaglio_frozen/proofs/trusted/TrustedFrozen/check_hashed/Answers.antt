@@ -1,3 +1,4 @@
+-- In a frozen table the reader finds what `find` does, and that is the first position (`find_is_first`).
 use Rattle.std.proofs.Common.{◌∙◌}
 use Rattle.intaglio_frozen.proofs.Found.{find_is_first}
 use Rattle.intaglio_frozen.proofs.trusted.TrustedFrozen.check_hashed.Goals as goal
