@@ -15,6 +15,7 @@ is_number-from_digits [] all some first = absurd (omega arith)
 is_number-from_digits (d ∷ []) all some first = all
 is_number-from_digits (d ∷ e ∷ more) all some first = grind (arith, common_steps, all, first)
 
+-- the digits of a number: one at least, and the first is 0 only if it is alone
 pub record IsNumber (ds : List ℕ) : Type 0 where
   pub all : all_ascii_digits ds ≡ true
   pub some : 0 < length ds

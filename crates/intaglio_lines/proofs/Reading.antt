@@ -49,8 +49,8 @@ first-blank : (front back : List (List ℕ)) → AreWritten front →
 first-blank [] back written = refl
 first-blank (line ∷ front) back written = rw (written.0, first-blank front back written.1) (omega arith)
 
--- if the lines in front of an empty one aren't empty, they are those before the first empty one, and those behind it
--- are those after the first empty one, which there is
+-- if the lines in front of an empty one aren't empty, they are those before the first empty one, and those
+-- behind it are those after the first empty one, which there is
 blank : (front back : List (List ℕ)) → AreWritten front → (before_first is_blank (front ++ [] ∷ back) ≡ front)
     × (after_first is_blank (front ++ [] ∷ back) ≡ back) × (list_any is_blank (front ++ [] ∷ back) ≡ true)
 blank front back written = grind (arith, common_steps, take_at, first-blank front back written, drop-append-add front ([] ∷ back) 1, list_any-append is_blank front ([] ∷ back))
@@ -60,6 +60,7 @@ length-output : (symbols : List ℕ) (spellings : List (List ℕ)) →
     length spellings ≤ length (output_of symbols spellings)
 length-output symbols spellings = grind (arith, common_steps, length-append, length-le-flat_map)
 
+-- bytes that hold symbols of 64 bits and spellings, and what is read of them
 pub record Reads (symbols : List ℕ) (spellings : List (List ℕ)) (bytes : List ℕ) : Type 0 where
   small : AreSmall symbols
   known : AllByRecursion (λ symbol. symbol < length spellings) symbols
@@ -116,7 +117,8 @@ pub known-lines : (count number : ℕ) (lines : List (List ℕ)) → first_fault
 known-lines count number [] none = tt
 known-lines count number (line ∷ lines) none = grind (arith, common_steps, known-lines count (number + 1) lines, ltb-true (digits_value 10 line) count)
 
--- lines that are numbers below a count are these numbers in decimal, if the count fits 64 bits, and these are below it
+-- lines that are numbers below a count are these numbers in decimal, if the count fits 64 bits, and these are
+-- below it
 known-decimals : (count : ℕ) (lines : List (List ℕ)) → count < 2 ^ 64 → AreKnown count lines →
     (map decimal (map (digits_value 10) lines) ≡ lines)
     × AllByRecursion (λ symbol. symbol < count) (map (digits_value 10) lines)

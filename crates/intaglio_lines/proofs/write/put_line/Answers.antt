@@ -1,4 +1,4 @@
--- The line and its byte 10 are put one after the other: a front is one of the line, or all of it and one of the byte.
+-- The line is put, and then its byte 10, so a front is one of the line, or all of it and one of the byte.
 use Rattle.std.proofs.Common.{◌++◌, [], ◌∷◌, append_assoc}
 use Rattle.intaglio_lines.proofs.Appended.{front_more, front-then}
 use Rattle.intaglio_lines.proofs.write.put_line.Goals as goal
