@@ -1,2 +1,3 @@
+-- What the proofs share.
 pub mod Accepted
 pub mod Known

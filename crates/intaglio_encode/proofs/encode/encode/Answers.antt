@@ -1,4 +1,4 @@
--- What `encode_input` says of the bytes that were read holds of the input, if that is known: they are all of it.
+-- The bytes that were read are all of the input, if that is known, so what `encode_input` says holds of it.
 use Rattle.intaglio_encode.proofs.Known.{of_input}
 use Rattle.intaglio_encode.proofs.encode.encode.Goals as goal
 
