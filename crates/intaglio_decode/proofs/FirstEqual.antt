@@ -59,6 +59,7 @@ module _ (key : List ℕ → Key) where
         known = All-from_recursion (λ n. n < length all) (issue key lines) (issued-known all [] lines refl);
       }
 
+  -- so the output is decoded to the first spellings of the lines
   pub decodes-first : (input : List ℕ) →
       Decodes (encoded_by key input) (flat_map spelling_line (first_spellings key (lines_of input)))
   decodes-first input =
@@ -77,7 +78,7 @@ module _ (key : List ℕ → Key) where
   found-one [] c k all is = is
   found-one (x ∷ xs) c k all is = grind (arith, common_steps, key_eq-decides (key x) k, found-one xs c k all.1)
 
-  -- the first spellings are lines with the keys of the lines, and so the lines where equal ones are spelled alike
+  -- the first spellings are lines with the keys of the lines, and they are these if equal lines are the same
   pub firsts : (lines rest : List (List ℕ)) → AllByRecursion IsLine lines → AllByRecursion IsLine rest →
       AllByRecursion IsLine (map (first_equal key lines) rest)
       × (map key (map (first_equal key lines) rest) ≡ map key rest)

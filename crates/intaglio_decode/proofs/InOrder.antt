@@ -30,6 +30,7 @@ module _ (key : List ℕ → Key) (spellings : List (List ℕ)) (distinct : Dist
       let go = goes (max next (n + 1)) symbols (omega (arith, known.0)) known.1 order.1 in
       grind (arith, common_steps, known.0, order.0, front.found (key (spelling_at n)) n, front.dropped (key (spelling_at n)) n, found-at n, take_more spellings next [], length-take-le next spellings, go.same, go.held)
 
+  -- so encoding what such symbols stand for gives the bytes that hold them
   pub encodes-decoded : (symbols bytes : List ℕ) → Holds symbols spellings bytes →
       AreInOrder 0 symbols (length spellings)
       → encoded_by key (decoded symbols spellings) ≡ bytes
