@@ -71,6 +71,7 @@ module _ {C : Type 0} (key : C → Key) where
   keeps_content old new i kept below = let held = has_content old i below in
       kept.stored i held.0 held.1 ∙ sym held.1
 
+  -- the same of the spelling alone
   pub keeps_text : (spelling : C → List ℕ) (old new : State C) (i : ℕ) → Keeps key old new →
       i < length old.contents → spelling_at spelling new i ≡ spelling_at spelling old i
   keeps_text spelling old new i kept below = ap (option_map spelling) (keeps_content old new i kept below)
@@ -151,11 +152,13 @@ module _ {C : Type 0} (key : C → Key) where
     absent_form_grows old new k w i none step = let taken : IsCopyAppended key spelling old k w i new =
         rw none at step in form-grows old new k w i taken
 
+    -- a form that was found is there already, and nothing changes
     pub found_form_same : (old new : State C) (k : Key) (w : List ℕ) (i j : ℕ) → IsFound key old k j →
         InternsForm key spelling old k w (Ok i) new → (i ≡ j) × (new ≡ old)
     found_form_same old new k w i j found step = let same : (◌≡◌ {A = Result ℕ InternError} (Ok i) (Ok j))
         × (new ≡ old) = rw found at step in (cc, same.1)
 
+    -- whether there are more contents says whether the form was found
     pub counted_form : (old new : State C) (k : Key) (w : List ℕ) (i : ℕ) →
         InternsForm key spelling old k w (Ok i) new
         → (length new.contents ≡ length old.contents → IsFound key old k i × (new ≡ old))

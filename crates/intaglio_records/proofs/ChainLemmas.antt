@@ -13,8 +13,8 @@ pub newest-add : (base k c : ℕ) (e : Entry) (os : List Overflow) →
 newest-add base k c e [] = refl
 newest-add base k c e (o ∷ os) = grind (arith, common_steps, eqb_tells, add-length c e os, newest-add base k c e os)
 
--- the number of a class's newest overflow line, if it isn't 0, comes behind the first lines. If there is a first
--- line or that number isn't 0, it is below the number of lines
+-- the number of a class's newest overflow line, if it isn't 0, comes behind the first lines. If there is a
+-- first line or that number isn't 0, it is below the number of lines
 pub newest-at : (base c : ℕ) (os : List Overflow) → (0 < newest base c os → base ≤ newest base c os)
     × (0 < base + newest base c os → newest base c os < base + length os)
 newest-at base c [] = (λ some. omega (arith, some), λ some. omega (arith, some))
