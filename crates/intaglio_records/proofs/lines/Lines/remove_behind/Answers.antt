@@ -1,5 +1,5 @@
 -- The count says in which line of `is-in` the newest entry is. If it was alone there, its line is the last of
--- all, so cutting it off is enough once the first line leads to the older one.
+-- all, so it can be truncated away once the first line leads to the older one.
 use Rattle.std.proofs.Common.{ℕ, ◌<◌, List, [], ◌∷◌, length, get_or, refl, ◌∙◌, arith, mod-lt}
 use Rattle.intaglio_records.proofs.Names.{Entry, IsLine, no_line}
 use Rattle.intaglio_records.proofs.ChainLemmas.{read-line}

@@ -1,4 +1,4 @@
--- No slot so far was of a record with the hash, so the same numbers are left, and fewer slots.
+-- No slot so far was of a record with the hash, so the same numbers are left. Each slot lowers `most_left`.
 use Rattle.std.proofs.Common.{◌≤◌}
 use Rattle.intaglio_records.specs.Matches.{IsSearch, LeavesAll, most_left}
 use Rattle.intaglio_records.proofs.matches.Matches.next.Given as goal
