@@ -4,7 +4,7 @@ use crate::operations::{get, get_or_intern, look_up};
 use crate::table::Searched;
 use anyhow::Result;
 use intaglio::packed::SymbolTable;
-use intaglio_frozen::{Frozen, Kind, TrustedFrozen, freeze};
+use intaglio_frozen::{Frozen, FrozenKind, TrustedFrozen, freeze};
 use intaglio_hash::KeyedState;
 use std::rt::Clock;
 use std::time::Instant;
@@ -35,7 +35,7 @@ impl<R: Print + Clock + AllocGlobal> Bench<'_, R> {
     // Freezes the table.
     fn freeze(&self, table: &SymbolTable<KeyedState>) -> Result<()> {
         let start = Instant::now(self.rt)?;
-        let bytes = freeze(self.rt.alloc(), table, Kind::Text, KEYS.0, KEYS.1)?;
+        let bytes = freeze(self.rt.alloc(), table, FrozenKind::Text, KEYS.0, KEYS.1)?;
         self.report("freeze", start, bytes.len() as u64)?;
         self.open_and_search(table, &bytes)
     }

@@ -4,7 +4,7 @@ ghost use Rattle.intaglio.specs.Keys.{bytes_key};
 ghost use Rattle.intaglio.specs.Lookup.{Keeps};
 ghost use Rattle.example_interpreter.specs.Spelled.{spelled, text_of};
 
-use crate::token::{Kind, Token};
+use crate::token::{TokenKind, Token};
 use intaglio::bytes::{BytesContent, SymbolTable};
 use intaglio::laws::valid_law;
 use intaglio::{InternError, Symbol, TableError};
@@ -64,21 +64,21 @@ pub fn have_same_text(texts: &SymbolTable, one: Symbol, other: Symbol) -> bool
 }
 
 // The kind of token that a byte begins.
-fn begins(byte: u8) -> Kind {
+fn begins(byte: u8) -> TokenKind {
     match byte {
-        b'a'..=b'z' | b'A'..=b'Z' | b'_' => Kind::Identifier,
-        b'0'..=b'9' => Kind::Number,
-        b' ' | b'\n' | b'\t' | b'\r' => Kind::Blank,
-        _ => Kind::Punctuation,
+        b'a'..=b'z' | b'A'..=b'Z' | b'_' => TokenKind::Identifier,
+        b'0'..=b'9' => TokenKind::Number,
+        b' ' | b'\n' | b'\t' | b'\r' => TokenKind::Blank,
+        _ => TokenKind::Punctuation,
     }
 }
 
 // Whether a byte continues a token of kind `first`.
-fn goes_on(first: Kind, byte: u8) -> bool {
+fn goes_on(first: TokenKind, byte: u8) -> bool {
     let kind = begins(byte);
     match first {
-        Kind::Punctuation => false,
-        Kind::Identifier => kind == Kind::Identifier || kind == Kind::Number,
+        TokenKind::Punctuation => false,
+        TokenKind::Identifier => kind == TokenKind::Identifier || kind == TokenKind::Number,
         _ => kind == first,
     }
 }
@@ -98,9 +98,9 @@ fn lexeme_len(rest: &[u8]) -> usize
 }
 
 // The kind of the token whose text has this symbol.
-fn kind_of(text: Symbol, lexeme: &[u8]) -> Kind {
+fn kind_of(text: Symbol, lexeme: &[u8]) -> TokenKind {
     if (text.id() as usize) < KEYWORDS.len() {
-        return Kind::Keyword;
+        return TokenKind::Keyword;
     }
-    lexeme.first().map_or(Kind::Blank, |byte| begins(*byte))
+    lexeme.first().map_or(TokenKind::Blank, |byte| begins(*byte))
 }

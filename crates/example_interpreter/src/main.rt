@@ -17,7 +17,7 @@ use intaglio::{StrContent, SymbolTable, bytes};
 use lexer::{lex, table_of_keywords};
 use scopes::{declare, visit};
 use std::str;
-use token::{Kind, Token};
+use token::{TokenKind, Token};
 
 const SOURCE: &str = "let x1 = x + 12;\nwhile x1 { x = x1; }\n";
 
@@ -38,7 +38,7 @@ fn lex_source(rt: &(impl Print + AllocGlobal)) -> Result<()> {
 // Prints the symbol, the kind and the text of each token that isn't blank.
 fn print_tokens(rt: &impl Print, texts: &bytes::SymbolTable, tokens: &[Token]) -> Result<()> {
     for token in tokens {
-        if token.kind != Kind::Blank {
+        if token.kind != TokenKind::Blank {
             let text = str::from_utf8(texts.get(token.text).unwrap_or(b"")).unwrap_or("?");
             println!(rt; "{} {} {text}", token.text.id(), token.kind)?;
         }

@@ -4,7 +4,7 @@ use std::fmt;
 
 /// What a token is.
 #[derive(Debug, Clone, Copy, PartialEq, Eq)]
-pub enum Kind {
+pub enum TokenKind {
     /// A reserved word of the language.
     Keyword,
     /// Any other word.
@@ -17,14 +17,14 @@ pub enum Kind {
     Punctuation,
 }
 
-impl fmt::Display for Kind {
+impl fmt::Display for TokenKind {
     fn fmt<W: fmt::Write>(&self, f: &mut fmt::Formatter<W>) -> fmt::Result {
         f.write_str(match self {
-            Kind::Keyword => "keyword",
-            Kind::Identifier => "identifier",
-            Kind::Number => "number",
-            Kind::Blank => "blank",
-            Kind::Punctuation => "punctuation",
+            TokenKind::Keyword => "keyword",
+            TokenKind::Identifier => "identifier",
+            TokenKind::Number => "number",
+            TokenKind::Blank => "blank",
+            TokenKind::Punctuation => "punctuation",
         })
     }
 }
@@ -33,7 +33,7 @@ impl fmt::Display for Kind {
 #[derive(Debug, Clone, Copy, PartialEq, Eq)]
 pub struct Token {
     /// What it is.
-    pub kind: Kind,
+    pub kind: TokenKind,
     /// The symbol of its text.
     pub text: Symbol,
 }

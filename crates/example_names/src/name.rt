@@ -3,7 +3,7 @@
 ghost use Rattle.std.specs.Prelude.{◌≡◌, refl, IsUtf8, string_bytes};
 ghost use Rattle.example_names.specs.Letters.{letters, name_text};
 
-use intaglio::{ContentOf, Keyed, Kind, KindForm, KindOwned, Packable, PackedForm, Spells};
+use intaglio::{ContentOf, Keyed, StringKind, KindForm, KindOwned, Packable, PackedForm, Spells};
 use std::alloc::{AllocError, Global};
 use std::hash::Hasher;
 use std::str;
@@ -38,7 +38,7 @@ impl<'a> Name<'a> {
     }
 }
 
-impl Kind for NameKind {
+impl StringKind for NameKind {
     ghost key_of = { letters };
 
     ghost is_spelling = { IsUtf8 };

@@ -5,7 +5,7 @@ ghost use Rattle.bstr.specs.Owned.{bstring_bytes};
 
 use bstr::{BStr, BString};
 use intaglio_content::{
-    ContentOf, Kind, KindForm, KindOwned, Packable, PackedForm, Spells, feed_item, same_bytes,
+    ContentOf, StringKind, KindForm, KindOwned, Packable, PackedForm, Spells, feed_item, same_bytes,
 };
 use std::alloc::{AllocError, Global};
 use std::hash::Hasher;
@@ -16,7 +16,7 @@ pub struct BStrKind;
 /// A byte string that a table stores: a `BStr<'static>` or a `BString`.
 pub type BStrContent = ContentOf<BStrKind>;
 
-impl Kind for BStrKind {
+impl StringKind for BStrKind {
     ghost key_of = { λ bytes. bytes ∷ [] };
 
     ghost is_spelling = { λ _. ⊤ };

@@ -2,7 +2,7 @@
 ghost use Rattle.std.specs.Prelude.{[], ◌∷◌, refl, ⊤};
 
 use intaglio_content::{
-    ContentOf, Kind, KindForm, KindOwned, Packable, PackedForm, Spells, feed_item, same_bytes,
+    ContentOf, StringKind, KindForm, KindOwned, Packable, PackedForm, Spells, feed_item, same_bytes,
 };
 use std::alloc::{AllocError, Global};
 use std::hash::Hasher;
@@ -13,7 +13,7 @@ pub struct BytesKind;
 /// A byte string that a table stores: a `&'static [u8]` or a `Vec<u8>`.
 pub type BytesContent = ContentOf<BytesKind>;
 
-impl Kind for BytesKind {
+impl StringKind for BytesKind {
     ghost key_of = { λ bytes. bytes ∷ [] };
 
     ghost is_spelling = { λ _. ⊤ };

@@ -1,19 +1,19 @@
 -- What was interned of an input, and what lines behind it add.
-use Rattle.intaglio_columns.proofs.Names.{common_steps, Consumes, IsAtEnd, take-append-drop, interned, interned_all, issue_from, State, is_ended, lines_of, ended-append, lines_of-append, texts, Kind, Allows, distinct_lines, HasInterned, IsInterned, ReadsMore, Consumes-nil, Consumes-trans}
+use Rattle.intaglio_columns.proofs.Names.{common_steps, Consumes, IsAtEnd, take-append-drop, interned, interned_all, issue_from, State, is_ended, lines_of, ended-append, lines_of-append, texts, FrozenKind, Allows, distinct_lines, HasInterned, IsInterned, ReadsMore, Consumes-nil, Consumes-trans}
 use Rattle.std.proofs.Common.{◌≡◌, ◌∙◌, ◌⊎◌, inl, inr, sym, ap, refl, subst, ℕ, zero, suc, ◌+◌, ◌-◌, ◌^◌, ◌<◌, ◌≤◌, min, Bool, true, List, [], ◌∷◌, ◌++◌, length, take, drop, get_or, Option, None, Some, IfSome, append_assoc, append-nil, length-append, arith}
 use Rattle.std.proofs.Math.Seq.{take-suc}
 use Rattle.std.proofs.lemmas.Str.{IsUtf8-append, IsUtf8-nil}
 use Rattle.intaglio_interner.proofs.Held.{interned_all-append, interned_all-longer, issue_from-append}
-use Rattle.intaglio_frozen.specs.declared.kind.Kind.TheVariants.{Bytes, Text}
+use Rattle.intaglio_frozen.specs.declared.kind.FrozenKind.TheVariants.{Bytes, Text}
 
 -- if a kind allows two inputs, it allows the one followed by the other
-allows-append : (kind : Kind) (front lines : List ℕ) → Allows kind front → Allows kind lines →
+allows-append : (kind : FrozenKind) (front lines : List ℕ) → Allows kind front → Allows kind lines →
     Allows kind (front ++ lines)
 allows-append Bytes front lines a b = tt
 allows-append Text front lines a b = IsUtf8-append front lines a b
 
 -- each kind allows an empty input
-pub allows-nothing : (kind : Kind) → Allows kind []
+pub allows-nothing : (kind : FrozenKind) → Allows kind []
 allows-nothing Bytes = tt
 allows-nothing Text = IsUtf8-nil
 
@@ -23,7 +23,7 @@ of-any None P holds = tt
 of-any (Some bytes) P holds = holds bytes
 
 -- if a kind allows bytes with whole lines at the front, it allows that front and the rest
-pub allows-parts : (kind : Kind) (front rest : List ℕ) → is_ended front ≡ true → Allows kind (front ++ rest) →
+pub allows-parts : (kind : FrozenKind) (front rest : List ℕ) → is_ended front ≡ true → Allows kind (front ++ rest) →
     Allows kind front × Allows kind rest
 allows-parts Bytes front rest ended all = (tt, tt)
 allows-parts Text front rest ended all = texts front rest ended all
@@ -38,7 +38,7 @@ pub held-append : (front lines : List ℕ) → is_ended front ≡ true →
     interned_all (λ w. w ∷ []) (distinct_lines front) (lines_of lines) ≡ distinct_lines (front ++ lines)
 held-append front lines ended = grind (arith, common_steps, interned_all-append, lines_of-append)
 
-module _ {kind : Kind} {is_kept : Bool} {front : List ℕ} {old : State (List ℕ)} {symbols : List ℕ} {count : ℕ}
+module _ {kind : FrozenKind} {is_kept : Bool} {front : List ℕ} {old : State (List ℕ)} {symbols : List ℕ} {count : ℕ}
     (ended : is_ended front ≡ true) (done : IsInterned kind is_kept front old symbols count) where
   -- after more lines are interned behind a front of whole lines, all of both are
   pub lines-interned : {new : State (List ℕ)} {later : List ℕ} {after : ℕ} (lines : List ℕ) →
@@ -81,7 +81,7 @@ module _ (front lines rest : List ℕ) (ended : is_ended front ≡ true) (whole 
       omega (arith, all-longer, more)
 
   -- an input that has lines that aren't allowed isn't allowed
-  pub not-allowed : (kind : Kind) → ¬ (Allows kind lines) → ¬ (Allows kind (front ++ (lines ++ rest)))
+  pub not-allowed : (kind : FrozenKind) → ¬ (Allows kind lines) → ¬ (Allows kind (front ++ (lines ++ rest)))
   not-allowed kind fault all =
       let behind = (allows-parts kind front (lines ++ rest) ended all).1 in
       elim whole as (λ _. ⊥) [
@@ -104,7 +104,7 @@ ended-take bytes (suc n) some within ten =
     ended-last (byte ∷ next ∷ more) = ended-last (next ∷ more)
 
 -- before anything is read, nothing is interned, and all of the input is left
-pub none-interned : {kind : Kind} {is_kept : Bool} (input : Option (List ℕ)) {state : State (List ℕ)}
+pub none-interned : {kind : FrozenKind} {is_kept : Bool} (input : Option (List ℕ)) {state : State (List ℕ)}
     {symbols : List ℕ} {count : ℕ} → IsInterned kind is_kept [] state symbols count
     → HasInterned kind is_kept input input [] state symbols count
 none-interned input done = record { front = []; ended = refl; read = Consumes-nil input; done = done }
@@ -117,7 +117,7 @@ of-whole P None left before read holds = tt
 of-whole P (Some input) None before read holds = absurd read
 of-whole P (Some input) (Some rest) before read holds = subst P (sym read) (holds rest (λ end. end))
 
-module _ {kind : Kind} {is_kept : Bool} {input left : Option (List ℕ)} {bytes : List ℕ}
+module _ {kind : FrozenKind} {is_kept : Bool} {input left : Option (List ℕ)} {bytes : List ℕ}
     {state : State (List ℕ)} {symbols : List ℕ} {count : ℕ}
     (has : HasInterned kind is_kept input left bytes state symbols count) where
   -- bytes that were read follow those that were held

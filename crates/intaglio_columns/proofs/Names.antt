@@ -16,7 +16,7 @@ pub use Rattle.intaglio_frozen.proofs.Renumbered.{renumbered, same-string}
 pub use Rattle.intaglio_frozen.specs.Merging.{AreMaps, IsMap, decode, renumber, union}
 pub use Rattle.intaglio_frozen.specs.SetId.{set_of_shards}
 pub use Rattle.intaglio_frozen.specs.Shards.{AreWithin, BelongTo, first_shards, joined, joined_map, shard, shard_of, sum_of}
-pub use Rattle.intaglio_frozen.specs.declared.kind.Kind.{Kind}
+pub use Rattle.intaglio_frozen.specs.declared.kind.FrozenKind.{FrozenKind}
 pub use Rattle.intaglio_hash.specs.Push.{number}
 pub use Rattle.intaglio_interner.specs.Issue.{interned, interned_all, issue_from}
 pub use Rattle.intaglio_interner.specs.State.{State}

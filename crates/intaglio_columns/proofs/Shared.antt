@@ -1,5 +1,5 @@
 -- Lists that are shared out to shards.
-use Rattle.intaglio_columns.proofs.Names.{common_steps, length-map, take_all, set_of_shards, Kind, State, lines_of, decode, renumber, first_shards, joined, shard, renumbered, distinct_lines, id_of, set_of, IsShared, KeepsInput}
+use Rattle.intaglio_columns.proofs.Names.{common_steps, length-map, take_all, set_of_shards, FrozenKind, State, lines_of, decode, renumber, first_shards, joined, shard, renumbered, distinct_lines, id_of, set_of, IsShared, KeepsInput}
 use Rattle.std.proofs.Common.{◌≡◌, ◌∙◌, sym, ap, refl, ℕ, zero, suc, ◌≤◌, List, [], ◌∷◌, length, length-append, map, take, Some, arith}
 use Rattle.std.proofs.lemmas.Simd.{map-map}
 use Rattle.intaglio_frozen.specs.declared.id.DictionaryId.{DictionaryId}
@@ -26,7 +26,7 @@ module _ {X : Type 0} (strings-of : X → List (List ℕ)) (lists : List X) wher
       sym (length-map lists strings-of) ∙ ap length split ∙ first-length many many strings
 
   -- the identities of all lists give the set
-  pub set-from : (kind : Kind) (ids : List DictionaryId) (n : ℕ) → length lists ≤ n
+  pub set-from : (kind : FrozenKind) (ids : List DictionaryId) (n : ℕ) → length lists ≤ n
       → ids ≡ map (λ ws. id_of kind (strings-of ws)) (take n lists)
       → set_of_shards ids ≡ set_of kind (map strings-of lists)
   set-from kind ids n all is =
@@ -34,7 +34,7 @@ module _ {X : Type 0} (strings-of : X → List (List ℕ)) (lists : List X) wher
       ∙ sym (map-map (id_of kind) strings-of lists))
 
 -- codes of lines, by the numbers of their strings among those of all shards, lead to the lines
-pub keeps-input : (kind : Kind) (many : ℕ) (lists : List (List (List ℕ))) (numbers symbols : List ℕ)
+pub keeps-input : (kind : FrozenKind) (many : ℕ) (lists : List (List (List ℕ))) (numbers symbols : List ℕ)
     (set : SetId) (state : State (List ℕ)) (count : ℕ)
     → IsShared kind many state.contents lists numbers set
     → KeepsInput many (renumber numbers symbols) state symbols count

@@ -1,7 +1,7 @@
 -- A shard that is merged of those of several parts.
 use Rattle.std.specs.Prelude.{◌≡◌, ℕ, ◌<◌, ◌≤◌, List, Some, slice_get}
 use Rattle.intaglio_frozen.specs.SetId.{set_of_merge}
-use Rattle.intaglio_frozen.specs.declared.kind.Kind.{Kind}
+use Rattle.intaglio_frozen.specs.declared.kind.FrozenKind.{FrozenKind}
 use Rattle.intaglio_frozen.specs.declared.set_id.Place.{Place}
 use Rattle.intaglio_frozen.specs.declared.set_id.SetId.{SetId}
 use Rattle.intaglio_frozen.specs.Merging.{union}
@@ -32,7 +32,7 @@ pub record IsMisplacedIn (count number : ℕ) (parts : List (List (List ℕ))) (
   pub before : AreOwnBefore p count number parts
 
 -- why a shard wasn't merged of these parts
-abbrev pub IsShardRefusal : Kind → ℕ → ℕ → List (List (List ℕ)) → ShardMergeError → Type 0
+abbrev pub IsShardRefusal : FrozenKind → ℕ → ℕ → List (List (List ℕ)) → ShardMergeError → Type 0
 IsShardRefusal kind count number parts NoShard = count ≤ number
 IsShardRefusal kind count number parts (Misplaced p i) = IsMisplacedIn count number parts p i
 IsShardRefusal kind count number parts (Strings refused) = IsUnionRefusal kind (union parts) refused

@@ -7,7 +7,7 @@ use Rattle.intaglio_frozen.specs.IsFrozen.{number_of}
 use Rattle.intaglio_frozen.specs.SetId.{set_of_shards}
 use Rattle.intaglio_frozen.specs.declared.error.FreezeError.TheVariants.{TooMany}
 use Rattle.intaglio_frozen.specs.declared.id.DictionaryId.{DictionaryId}
-use Rattle.intaglio_frozen.specs.declared.kind.Kind.{Kind}
+use Rattle.intaglio_frozen.specs.declared.kind.FrozenKind.{FrozenKind}
 use Rattle.intaglio_frozen.specs.declared.set_id.Place.{Place}
 use Rattle.intaglio_frozen.specs.declared.set_id.SetId.{SetId}
 use Rattle.intaglio_interner.specs.State.{State}
@@ -21,11 +21,11 @@ use Rattle.intaglio_columns.specs.declared.error.FreezingError.{FreezingError}
 use Rattle.intaglio_columns.specs.declared.error.FreezingError.TheVariants.{NotUtf8, Table, Stream}
 
 -- whether strings of a kind are texts
-abbrev pub are_texts : Kind → Bool
+abbrev pub are_texts : FrozenKind → Bool
 are_texts kind = is_text_number (number_of kind)
 
 -- what a dictionary of these strings is
-abbrev pub id_of : Kind → List (List ℕ) → DictionaryId
+abbrev pub id_of : FrozenKind → List (List ℕ) → DictionaryId
 id_of kind ws = record {
   is_text = are_texts kind;
   count = length ws;
@@ -34,11 +34,11 @@ id_of kind ws = record {
 }
 
 -- the set of shards with these strings
-abbrev pub set_of : Kind → List (List (List ℕ)) → SetId
+abbrev pub set_of : FrozenKind → List (List (List ℕ)) → SetId
 set_of kind lists = set_of_shards (map (id_of kind) lists)
 
 -- what the dictionary of a set with so many strings is, for the header of a column
-abbrev pub reference_of : Kind → ℕ → SetId → DictionaryId
+abbrev pub reference_of : FrozenKind → ℕ → SetId → DictionaryId
 reference_of kind many set = record {
   is_text = are_texts kind;
   count = many;
@@ -56,7 +56,7 @@ place_of set many number = record { set = set; shards = many; shard = number }
 
 -- the strings of a list in so many shards, the number of each string of the list among those of all shards,
 -- which has at most 2^32 - 1, and the set
-pub record IsShared (kind : Kind) (many : ℕ) (strings : List (List ℕ)) (lists : List (List (List ℕ)))
+pub record IsShared (kind : FrozenKind) (many : ℕ) (strings : List (List ℕ)) (lists : List (List (List ℕ)))
     (numbers : List ℕ) (set : SetId) : Type 0 where
   pub few : length strings ≤ missing
   pub split : lists ≡ shards many strings
@@ -70,7 +70,7 @@ AreSharedCodes many codes input =
 
 -- whatever input was interned, these are the codes of its lines
 abbrev pub KeepsInput : ℕ → List ℕ → State (List ℕ) → List ℕ → ℕ → Type 0
-KeepsInput many codes state symbols count = (kind : Kind) (input : List ℕ) →
+KeepsInput many codes state symbols count = (kind : FrozenKind) (input : List ℕ) →
     IsInterned kind true input state symbols count → AreSharedCodes many codes input
 
 -- when each error is returned of strings that are shared out

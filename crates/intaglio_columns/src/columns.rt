@@ -171,11 +171,11 @@ pub fn encode_column<D: WholeDictionary, R: Read, W: Write>(
 /// ```
 /// # use intaglio::SymbolTable;
 /// # use intaglio_columns::columns::decode_column;
-/// # use intaglio_frozen::{Frozen, Kind, freeze};
+/// # use intaglio_frozen::{Frozen, FrozenKind, freeze};
 /// # let mut table = SymbolTable::new(rt.alloc())?;
 /// # let _rose = table.get_or_intern("rose")?;
 /// # let _thorn = table.get_or_intern("thorn")?;
-/// let bytes = freeze(rt.alloc(), &table, Kind::Text, 0, 0)?;
+/// let bytes = freeze(rt.alloc(), &table, FrozenKind::Text, 0, 0)?;
 /// let dictionary = Frozen::open(&bytes)?;
 /// let codes = [1, 0, 0, 0, 0xff, 0xff, 0xff, 0xff, 0, 0, 0, 0];
 /// let mut lines = Vec::new(rt.alloc());

@@ -29,7 +29,7 @@ pub struct Encoding<'a, D> {
 
 // Lines at the front of bytes, and where the rest begins.
 #[derive(Drop)]
-struct Lines<'a> {
+struct FrontLines<'a> {
     lines: Vec<&'a [u8]>,
     size: usize,
 }
@@ -247,7 +247,7 @@ impl<D: WholeDictionary> Encoding<'_, D> {
 
 // The lines at the front of the bytes: a group of them, or all that are whole if they are fewer. So many
 // bytes at the front have no line end.
-fn first_lines<'a>(alloc: Global, bytes: &'a [u8], seen: usize) -> Result<Lines<'a>, TranslateError>
+fn first_lines<'a>(alloc: Global, bytes: &'a [u8], seen: usize) -> Result<FrontLines<'a>, TranslateError>
     requires within { seen ≤ length bytes.now }
     requires seen { HasNoEnd (take seen bytes.now) }
     ensures whole { IfOk result (λ group.
@@ -264,13 +264,13 @@ fn first_lines<'a>(alloc: Global, bytes: &'a [u8], seen: usize) -> Result<Lines<
     let mut skip = seen;
     while lines.len() < GROUP {
         let Some((end, next)) = first_whole_line(&bytes[size..], skip) else {
-            return Ok(Lines { lines, size });
+            return Ok(FrontLines { lines, size });
         };
         lines.push_reserved(&bytes[size..][..end]);
         size += next;
         skip = 0;
     }
-    Ok(Lines { lines, size })
+    Ok(FrontLines { lines, size })
 }
 
 // Where the first line of the bytes ends, and where the next begins. So many

@@ -14,7 +14,7 @@ use crate::error::FreezingError;
 use crate::interning::{Interned, intern_input};
 use crate::progress::Progress;
 use crate::{column_bytes, id_of_table};
-use intaglio_frozen::{FreezeError, Kind, Place, freeze_at};
+use intaglio_frozen::{FreezeError, FrozenKind, Place, freeze_at};
 use intaglio_lines::error::StreamError;
 use intaglio_symbol::Symbol;
 use std::alloc::Global;
@@ -37,7 +37,7 @@ use std::io::{Read, Write};
 /// `Read` or `Write`. After each but `Write` nothing was written.
 pub fn freeze_lines<S: BuildHasher + Drop, R: Read, W: Write, P: Progress>(
     alloc: Global,
-    kind: Kind,
+    kind: FrozenKind,
     keys: Option<(u64, u64)>,
     builder: S,
     reader: &mut R,
@@ -71,7 +71,7 @@ pub fn freeze_lines<S: BuildHasher + Drop, R: Read, W: Write, P: Progress>(
 /// table was written, or the whole column was.
 pub fn freeze_column_file<S: BuildHasher + Drop, R: Read, W: Write, V: Write, P: Progress>(
     alloc: Global,
-    kind: Kind,
+    kind: FrozenKind,
     keys: Option<(u64, u64)>,
     builder: S,
     reader: &mut R,
@@ -132,7 +132,7 @@ impl<S: BuildHasher> Interned<S> {
     fn frozen<P: Progress>(
         &self,
         alloc: Global,
-        kind: Kind,
+        kind: FrozenKind,
         keys: Option<(u64, u64)>,
         progress: &mut P,
     ) -> Result<Vec<u8>, FreezeError>

@@ -1,7 +1,7 @@
 //! Interns the lines of an input, a block at a time.
 ghost use Rattle.std.specs.Prelude.{◌≡◌, ◌⊎◌, ◌↔◌, ◌≤◌, ℕ, List, [], ◌++◌, Bool, false, true, length, take, IfErr, IfOk, IfSome, IsTrue, OnOk};
 ghost use Rattle.std.specs.Io.KnownBytes.{IsAtEnd};
-ghost use Rattle.intaglio_frozen.specs.declared.kind.Kind.{Kind};
+ghost use Rattle.intaglio_frozen.specs.declared.kind.FrozenKind.{FrozenKind};
 ghost use Rattle.intaglio_lines.specs.Decoded.{is_ended};
 ghost use Rattle.intaglio_lines.specs.declared.error.StreamError.TheVariants.{Memory};
 ghost use Rattle.intaglio_columns.specs.Frozen.{Allows, IsRefusal};
@@ -13,7 +13,7 @@ use crate::error::FreezingError;
 use crate::translate::{TranslateError, drop_front, read_more};
 use intaglio::TableOver;
 use intaglio_bytes::bytes::BytesKind;
-use intaglio_frozen::{FreezeError, Kind};
+use intaglio_frozen::{FreezeError, FrozenKind};
 use intaglio_lines::error::StreamError;
 use intaglio_lines::intern_lines::intern_more_lines;
 use intaglio_lines::tool_error::ToolError;
@@ -44,7 +44,7 @@ pub struct Interned<S: BuildHasher> {
 /// many lines, `Memory` or `Read`.
 pub fn intern_input<S: BuildHasher + Drop, R: Read>(
     alloc: Global,
-    kind: Kind,
+    kind: FrozenKind,
     is_kept: bool,
     builder: S,
     reader: &mut R,
@@ -73,7 +73,7 @@ pub fn intern_input<S: BuildHasher + Drop, R: Read>(
 impl<S: BuildHasher + Drop> Interned<S> {
     // No lines.
     fn new(alloc: Global, builder: S) -> Result<Interned<S>, FreezingError>
-        ensures none { IfOk result (λ made. (kind : Kind) → (is_kept : Bool) → Allows kind [] →
+        ensures none { IfOk result (λ made. (kind : FrozenKind) → (is_kept : Bool) → Allows kind [] →
             IsInterned kind is_kept [] made.table.state made.symbols.items made.count) }
         ensures err { IfErr result (λ e. e ≡ Stream Memory) }
     {
@@ -103,7 +103,7 @@ impl<S: BuildHasher + Drop> Interned<S> {
     fn add(
         &mut self,
         alloc: Global,
-        kind: Kind,
+        kind: FrozenKind,
         is_kept: bool,
         lines: &[u8],
     ) -> Result<(), FreezingError>
@@ -134,12 +134,12 @@ impl<S: BuildHasher + Drop> Interned<S> {
 }
 
 // Whether bytes can be split into lines of a kind.
-fn is_allowed(kind: Kind, bytes: &[u8]) -> bool
+fn is_allowed(kind: FrozenKind, bytes: &[u8]) -> bool
     ensures { IsTrue result ↔ Allows kind bytes.now }
 {
     match kind {
-        Kind::Bytes => true,
-        Kind::Text => str::from_utf8(bytes).is_ok(),
+        FrozenKind::Bytes => true,
+        FrozenKind::Text => str::from_utf8(bytes).is_ok(),
     }
 }
 
@@ -149,7 +149,7 @@ fn read_block<R: Read>(reader: &mut R, bytes: &mut Vec<u8>) -> Result<bool, Free
         (ReadsMore (R.remaining reader.old) (R.remaining reader.new) bytes.old.items bytes.new.items) }
     ensures same { IfOk result (λ more. more ≡ false → bytes.new.items ≡ bytes.old.items) }
     ensures end { IfOk result (λ more. more ≡ false → IsAtEnd (R.remaining reader.new)) }
-    ensures err { IfErr result (λ e. (kind : Kind) → (input : List ℕ) → IsRefusal kind input e) }
+    ensures err { IfErr result (λ e. (kind : FrozenKind) → (input : List ℕ) → IsRefusal kind input e) }
 {
     match read_more(reader, bytes) {
         Ok(more) => Ok(more),

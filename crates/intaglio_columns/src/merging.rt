@@ -5,12 +5,12 @@ ghost use Rattle.intaglio_columns.specs.Frozen.{IsUnionRefusal};
 ghost use Rattle.intaglio_frozen.specs.Freezing.{HasKeysFor, IsTableOf};
 ghost use Rattle.intaglio_frozen.specs.Layout.{shards as shards_of};
 ghost use Rattle.intaglio_frozen.specs.SetId.{IsAt};
-ghost use Rattle.intaglio_frozen.specs.declared.kind.Kind.{Kind};
+ghost use Rattle.intaglio_frozen.specs.declared.kind.FrozenKind.{FrozenKind};
 ghost use Rattle.intaglio_columns.specs.declared.error.FreezingError.TheVariants.{Stream};
 
 use crate::error::FreezingError;
 use crate::progress::Progress;
-use intaglio_frozen::{FreezeError, Frozen, Kind, Merged, Place, freeze_at, merge_tables};
+use intaglio_frozen::{FreezeError, Frozen, FrozenKind, Merged, Place, freeze_at, merge_tables};
 use intaglio_lines::error::StreamError;
 use intaglio_symbol::{InternError, Symbol};
 use std::alloc::Global;
@@ -28,7 +28,7 @@ use std::hash::BuildHasher;
 pub fn merge<S: BuildHasher + Drop, P: Progress>(
     alloc: Global,
     tables: &[Frozen<'_>],
-    kind: Kind,
+    kind: FrozenKind,
     keys: Option<(u64, u64)>,
     builder: S,
     progress: &mut P,
@@ -47,7 +47,7 @@ pub fn merge<S: BuildHasher + Drop, P: Progress>(
 pub(crate) fn frozen_union<S: BuildHasher + Drop, P: Progress>(
     alloc: Global,
     tables: &[Frozen<'_>],
-    kind: Kind,
+    kind: FrozenKind,
     keys: Option<(u64, u64)>,
     place: Place,
     builder: S,
@@ -81,7 +81,7 @@ pub fn merged_tables<S: BuildHasher + Drop>(
     ensures union { IfOk result (λ merged. merged.table.state.contents ≡ union tables.now) }
     ensures maps { IfOk result (λ merged.
         AreMaps tables.now (union tables.now) (map (λ m. m.items) merged.maps.items)) }
-    ensures err { IfErr result (λ e. (kind : Kind) → IsUnionRefusal kind (union tables.now) e) }
+    ensures err { IfErr result (λ e. (kind : FrozenKind) → IsUnionRefusal kind (union tables.now) e) }
 {
     match merge_tables(alloc, tables, builder) {
         Ok(merged) => Ok(merged),

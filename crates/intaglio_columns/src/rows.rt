@@ -43,10 +43,10 @@ pub struct RowRange {
 /// # use intaglio::SymbolTable;
 /// # use intaglio_columns::{Column, column_bytes, id_of_table};
 /// # use intaglio_columns::rows::{RowRange, write_rows};
-/// # use intaglio_frozen::{Frozen, Kind, freeze};
+/// # use intaglio_frozen::{Frozen, FrozenKind, freeze};
 /// # let mut table = SymbolTable::new(rt.alloc())?;
 /// # let (rose, thorn) = (table.get_or_intern("rose")?, table.get_or_intern("thorn")?);
-/// # let bytes = freeze(rt.alloc(), &table, Kind::Text, 0, 0)?;
+/// # let bytes = freeze(rt.alloc(), &table, FrozenKind::Text, 0, 0)?;
 /// # let dictionary = Frozen::open(&bytes)?;
 /// let codes = [rose, thorn, rose];
 /// let file = column_bytes(rt.alloc(), id_of_table(&bytes)?, &codes.as_slice())?;

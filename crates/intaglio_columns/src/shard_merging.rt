@@ -5,12 +5,12 @@ ghost use Rattle.intaglio_frozen.specs.Shards.{BelongTo};
 ghost use Rattle.intaglio_columns.specs.ShardMerging.{AreOwn, IsShardRefusal, merged_place};
 ghost use Rattle.intaglio_frozen.specs.Freezing.{HasKeysFor, IsTableOf};
 ghost use Rattle.intaglio_frozen.specs.SetId.{IsAt};
-ghost use Rattle.intaglio_frozen.specs.declared.kind.Kind.{Kind};
+ghost use Rattle.intaglio_frozen.specs.declared.kind.FrozenKind.{FrozenKind};
 
 use crate::error::ShardMergeError;
 use crate::merging::frozen_union;
 use crate::progress::Progress;
-use intaglio_frozen::{Frozen, Kind, Place, SetId, first_misplaced};
+use intaglio_frozen::{Frozen, FrozenKind, Place, SetId, first_misplaced};
 use intaglio_symbol::Symbol;
 use std::alloc::Global;
 use std::hash::BuildHasher;
@@ -29,7 +29,7 @@ pub struct NewShard {
 ///
 /// Each string must belong to this shard. So the shards of one merge are one dictionary, whose set
 /// ([`SetId::of_merge`]) the table has: it is made of the sets of the parts, in the parts' order. If there is
-/// one shard, this is [`merge`](crate::merging::merge), and the set is what the strings are. Kind, keys and
+/// one shard, this is [`merge`](crate::merging::merge), and the set is what the strings are. FrozenKind, keys and
 /// builder are as for that.
 ///
 /// # Errors
@@ -41,7 +41,7 @@ pub struct NewShard {
 /// use anyhow::Result;
 /// use intaglio_columns::progress::Progress;
 /// use intaglio_columns::shard_merging::merge_shard;
-/// use intaglio_frozen::{Frozen, Kind, SetId, freeze};
+/// use intaglio_frozen::{Frozen, FrozenKind, SetId, freeze};
 /// use intaglio_hash::FixedState;
 ///
 /// // Says nothing of how far the merge is.
@@ -57,13 +57,13 @@ pub struct NewShard {
 /// fn main(rt: HostRuntime) -> Result<()> {
 ///     let mut words = Vec::new(rt.alloc());
 ///     words.push(b"rose".as_slice())?;
-///     let part = freeze(rt.alloc(), &words, Kind::Text, 0, 0)?;
+///     let part = freeze(rt.alloc(), &words, FrozenKind::Text, 0, 0)?;
 ///
 ///     // The only shard of two parts.
 ///     let parts = [Frozen::open(&part)?, Frozen::open(&part)?];
 ///     let sets = [SetId { hash0: 5, hash1: 6 }; 2];
 ///     let made =
-///         merge_shard(rt.alloc(), &parts, &sets, 1, 0, Kind::Text, None, FixedState, &mut Quiet)?;
+///         merge_shard(rt.alloc(), &parts, &sets, 1, 0, FrozenKind::Text, None, FixedState, &mut Quiet)?;
 ///     assert!(rt; Frozen::open(&made.bytes)?.len() == 1);
 ///     assert!(rt; made.maps.len() == 2);
 ///     Ok(())
@@ -75,7 +75,7 @@ pub fn merge_shard<S: BuildHasher + Drop, P: Progress>(
     sets: &[SetId],
     shards: u32,
     shard: u32,
-    kind: Kind,
+    kind: FrozenKind,
     keys: Option<(u64, u64)>,
     builder: S,
     progress: &mut P,
@@ -101,7 +101,7 @@ pub fn merge_shard<S: BuildHasher + Drop, P: Progress>(
 fn check_own(parts: &[Frozen<'_>], shards: u32, shard: u32) -> Result<(), ShardMergeError>
     ensures own { OnOk result (AreOwn shards shard parts.now) }
     ensures below { OnOk result (shard < shards) }
-    ensures err { IfErr result (λ e. (kind : Kind) → IsShardRefusal kind shards shard parts.now e) }
+    ensures err { IfErr result (λ e. (kind : FrozenKind) → IsShardRefusal kind shards shard parts.now e) }
 {
     if shard >= shards {
         return Err(ShardMergeError::NoShard);

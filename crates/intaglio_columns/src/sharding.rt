@@ -9,7 +9,7 @@ use crate::error::FreezingError;
 use crate::interning::Interned;
 use crate::joining::renumbered;
 use intaglio_frozen::{
-    DictionaryId, FreezeError, Kind, Place, SetId, StringList, freeze_at, split_with_map,
+    DictionaryId, FreezeError, FrozenKind, Place, SetId, StringList, freeze_at, split_with_map,
 };
 use intaglio_lines::error::StreamError;
 use intaglio_symbol::Symbol;
@@ -30,7 +30,7 @@ pub struct ShardedList<'s> {
     /// The number of each string of the list among those of all shards.
     pub numbers: Vec<Symbol>,
     /// What strings are.
-    pub kind: Kind,
+    pub kind: FrozenKind,
     /// How many shards there are.
     pub shards: u32,
     /// What the set of the shards is.
@@ -47,7 +47,7 @@ impl<'s> ShardedList<'s> {
     pub fn of<L: StringList>(
         alloc: Global,
         list: &'s L,
-        kind: Kind,
+        kind: FrozenKind,
         shards: u32,
     ) -> Result<ShardedList<'s>, FreezingError>
         requires { 0 < shards }
@@ -80,7 +80,7 @@ impl<'s> ShardedList<'s> {
         ensures { result ≡ reference_of self.now.kind (length self.now.numbers.items) self.now.set }
     {
         DictionaryId {
-            is_text: self.kind == Kind::Text,
+            is_text: self.kind == FrozenKind::Text,
             count: self.numbers.len() as u64,
             hash0: self.set.hash0,
             hash1: self.set.hash1,
@@ -131,7 +131,7 @@ impl<'s> ShardedList<'s> {
 }
 
 // What the set of shards with these strings is.
-fn set_of(alloc: Global, kind: Kind, lists: &[Vec<&[u8]>]) -> Result<SetId, AllocError>
+fn set_of(alloc: Global, kind: FrozenKind, lists: &[Vec<&[u8]>]) -> Result<SetId, AllocError>
     ensures { IfOk result (λ set. set ≡ set_of kind (map (λ ws. map (λ w. w.now) ws.items) lists.now)) }
 {
     let mut ids = Vec::new(alloc);
@@ -142,10 +142,10 @@ fn set_of(alloc: Global, kind: Kind, lists: &[Vec<&[u8]>]) -> Result<SetId, Allo
 }
 
 // What a dictionary of these strings is.
-fn id_of(kind: Kind, list: &Vec<&[u8]>) -> DictionaryId
+fn id_of(kind: FrozenKind, list: &Vec<&[u8]>) -> DictionaryId
     ensures { result ≡ id_of kind (map (λ w. w.now) list.now.items) }
 {
-    DictionaryId::of_list(kind == Kind::Text, list)
+    DictionaryId::of_list(kind == FrozenKind::Text, list)
 }
 
 impl<S: BuildHasher> Interned<S> {
@@ -157,7 +157,7 @@ impl<S: BuildHasher> Interned<S> {
     pub fn in_shards(
         &self,
         alloc: Global,
-        kind: Kind,
+        kind: FrozenKind,
         shards: u32,
     ) -> Result<(ShardedList<'_>, Vec<Symbol>), FreezingError>
         requires { 0 < shards }

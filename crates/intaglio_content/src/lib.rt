@@ -1,7 +1,7 @@
 #![tactic(auto)]
 //! What tables store and compare.
 //!
-//! - [`Kind`], [`KindOwned`], [`KindForm`], [`PackedForm`]: kinds of strings; [`ContentOf`], [`Keyed`],
+//! - [`StringKind`], [`KindOwned`], [`KindForm`], [`PackedForm`]: kinds of strings; [`ContentOf`], [`Keyed`],
 //!   [`Content`], [`Spells`], [`Packable`]: their contents and forms.
 //! - [`Store`], [`ByteStore`], [`SoughtIn`], [`AddedTo`], [`CopiedTo`], [`Lends`], [`LookedUpIn`],
 //!   [`SpelledStore`], [`SpellingStore`]: where contents are kept.
@@ -29,7 +29,7 @@ pub use content_of::ContentOf;
 pub use feed::feed_item;
 pub use forms::Forms;
 pub use growth::doubled;
-pub use kind::{Kind, KindForm, KindOwned, Packable, PackedForm, Spells};
+pub use kind::{StringKind, KindForm, KindOwned, Packable, PackedForm, Spells};
 pub use of_kind::OfKind;
 pub use pairs::Pairs;
 pub use same::same_bytes;

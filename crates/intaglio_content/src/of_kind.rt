@@ -1,6 +1,6 @@
 //! The kind of a content.
 use crate::content_of::ContentOf;
-use crate::kind::{Kind, KindOwned};
+use crate::kind::{StringKind, KindOwned};
 use crate::spelling::Spelling;
 
 /// A content that is of a kind, which decides how its tables call the iterator over their
@@ -14,6 +14,6 @@ impl<K: KindOwned> OfKind for ContentOf<K> {
     type Kind = K;
 }
 
-impl<K: Kind> OfKind for Spelling<K> {
+impl<K: StringKind> OfKind for Spelling<K> {
     type Kind = K;
 }

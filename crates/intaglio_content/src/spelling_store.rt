@@ -5,7 +5,7 @@ ghost use Rattle.std.proofs.lemmas.Bool.{true≢false};
 ghost use Rattle.intaglio_content.specs.Store.{byte_room, IsPushed};
 
 use crate::content::Keyed;
-use crate::kind::{Kind, Packable, Spells};
+use crate::kind::{StringKind, Packable, Spells};
 use crate::spelling::Spelling;
 use crate::store::{AddedTo, ByteStore, Copied, CopiedTo, SoughtIn, Store};
 use crate::work::Work;
@@ -16,7 +16,7 @@ use std::marker::PhantomData;
 /// A list of spellings of one kind, such as strings in one buffer.
 pub trait SpellingStore: ByteStore<Content = Spelling<Self::SpellingKind>, Prepared = ()> {
     /// The kind of the spellings.
-    type SpellingKind: Kind;
+    type SpellingKind: StringKind;
 
     /// For contracts alone: what is kept at a position is a spelling.
     fn is_spelling_at(&self, i: usize)
@@ -40,12 +40,12 @@ pub trait SpellingStore: ByteStore<Content = Spelling<Self::SpellingKind>, Prepa
 
 // The bytes of a stored spelling, as a value with a key.
 #[derive(Drop)]
-struct Stored<'a, K: Kind> {
+struct Stored<'a, K: StringKind> {
     bytes: &'a [u8],
     kind: PhantomData<K>,
 }
 
-impl<'a, K: Kind> Keyed for Stored<'a, K> {
+impl<'a, K: StringKind> Keyed for Stored<'a, K> {
     ghost key = { λ stored. K.key_of stored.bytes.now };
 }
 
@@ -55,7 +55,7 @@ impl<L: SpellingStore, Q: Packable<L::SpellingKind>> SoughtIn<L> for Q {
     fn hash_by<S: BuildHasher>(&self, builder: &S, work: &mut Work) -> u64 {
         work.hashed(self);
         let mut hasher = builder.build_hasher();
-        <L::SpellingKind as Kind>::feed_spelling(self.spelled_bytes(), &mut hasher);
+        <L::SpellingKind as StringKind>::feed_spelling(self.spelled_bytes(), &mut hasher);
         hasher.finish()
     }
 
@@ -69,7 +69,7 @@ impl<L: SpellingStore, Q: Packable<L::SpellingKind>> SoughtIn<L> for Q {
                 kind: PhantomData::<L::SpellingKind>,
             },
         );
-        <L::SpellingKind as Kind>::same_spellings(self.spelled_bytes(), read)
+        <L::SpellingKind as StringKind>::same_spellings(self.spelled_bytes(), read)
     }
 }
 

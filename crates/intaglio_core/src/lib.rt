@@ -16,7 +16,7 @@ pub use index_of::{IndexOf, Indexed};
 pub use indexed_store::{Core, IndexedStore, SYMBOLS};
 pub use intaglio_bytes::bytes::BytesContent;
 pub use intaglio_content::{
-    AddedTo, ByteStore, Content, ContentOf, Copied, CopiedTo, Forms, Keyed, Kind, KindForm,
+    AddedTo, ByteStore, Content, ContentOf, Copied, CopiedTo, Forms, Keyed, StringKind, KindForm,
     KindOwned, Lends, LookedUpIn, Moved, Packable, PackedForm, Pairs, Sought, SoughtIn, Spelled,
     SpelledStore, Spells, Store, Work, feed_item,
 };

@@ -6,7 +6,7 @@ ghost use Rattle.intaglio_cstr.specs.Zeros.{first_zero};
 use crate::c_str::CStr;
 use crate::c_string::CString;
 use intaglio_content::{
-    ContentOf, Keyed, Kind, KindForm, KindOwned, Packable, Spells, feed_item, same_bytes,
+    ContentOf, Keyed, StringKind, KindForm, KindOwned, Packable, Spells, feed_item, same_bytes,
 };
 use std::alloc::{AllocError, Global};
 use std::hash::Hasher;
@@ -17,7 +17,7 @@ pub struct CStrKind;
 /// A C string that a table stores: a `CStr<'static>` or a `CString`.
 pub type CStrContent = ContentOf<CStrKind>;
 
-impl Kind for CStrKind {
+impl StringKind for CStrKind {
     ghost key_of = { λ bytes. bytes ∷ [] };
 
     ghost is_spelling = { λ bytes. first_zero bytes ≡ None };

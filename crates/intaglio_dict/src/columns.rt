@@ -2,9 +2,9 @@
 use crate::column_files::decoding::decode_file;
 use crate::column_files::opening::Pair;
 use crate::column_files::rows::missing_text;
-use crate::dictionaries::{Bytes, Reference, first_dictionary, open_shards};
+use crate::dictionaries::{DictionaryBytes, Reference, first_dictionary, open_shards};
 use crate::freezing::write_lines;
-use crate::io::checking::checked;
+use crate::io::tables::checked;
 use crate::io::input::{STANDARD, STANDARD_INPUT, meter_of, name_of, whole};
 use crate::io::metered::{Meter, Metered};
 use crate::io::noticing::Noticing;
@@ -171,11 +171,11 @@ pub fn encode_lines<R: Files + RandomSource + Input + Print + Tell + AllocGlobal
     let (name, dictionary) = first_dictionary(rt, found)?;
     let reference = dictionary.reference(rt, name)?;
     match dictionary {
-        Bytes::OfFile(bytes) => match checked(rt, name, &bytes) {
+        DictionaryBytes::OfFile(bytes) => match checked(rt, name, &bytes) {
             Ok(table) => encode_with(rt, found, &table, reference),
             Err(status) => Err(status),
         },
-        Bytes::OfShards(all) => match open_shards(rt, name, &all) {
+        DictionaryBytes::OfShards(all) => match open_shards(rt, name, &all) {
             Ok(shards) => encode_with(rt, found, &shards, reference),
             Err(status) => Err(status),
         },
@@ -233,11 +233,11 @@ pub fn decode_codes<R: Files + RandomSource + Input + Print + Tell + AllocGlobal
     let (name, dictionary) = first_dictionary(rt, found)?;
     let reference = dictionary.reference(rt, name)?;
     match dictionary {
-        Bytes::OfFile(bytes) => match checked(rt, name, &bytes) {
+        DictionaryBytes::OfFile(bytes) => match checked(rt, name, &bytes) {
             Ok(table) => decode_with(rt, found, &table, missing, name, reference),
             Err(status) => Err(status),
         },
-        Bytes::OfShards(all) => match open_shards(rt, name, &all) {
+        DictionaryBytes::OfShards(all) => match open_shards(rt, name, &all) {
             Ok(shards) => decode_with(rt, found, &shards, missing, name, reference),
             Err(status) => Err(status),
         },

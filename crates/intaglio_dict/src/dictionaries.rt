@@ -1,5 +1,5 @@
 //! The dictionary of a command: a file, or a folder of shards.
-use crate::io::checking::checked;
+use crate::io::tables::checked;
 use crate::io::folders::{is_folder, shard_name};
 use crate::io::input::{name_of, whole};
 use crate::io::metered::Meter;
@@ -7,12 +7,12 @@ use crate::io::report;
 use crate::io::report::Tell;
 use clap::ArgMatches;
 use intaglio_columns::{ColumnHeader, DictionaryId};
-use intaglio_frozen::{Frozen, Header, Kind, Shards, ShardsError};
+use intaglio_frozen::{Frozen, Header, FrozenKind, Shards, ShardsError};
 use std::rt::Files;
 
 /// The bytes of a dictionary, as they were read.
 #[derive(Drop)]
-pub enum Bytes {
+pub enum DictionaryBytes {
     /// Those of a file.
     OfFile(Vec<u8>),
     /// Those of each shard of a folder: there is at least one, and their headers agree.
@@ -33,7 +33,7 @@ impl Reference {
     pub fn of(header: &Header) -> Reference {
         Reference {
             id: DictionaryId {
-                is_text: header.kind == Kind::Text,
+                is_text: header.kind == FrozenKind::Text,
                 count: header.count,
                 hash0: header.place.set.hash0,
                 hash1: header.place.set.hash1,
@@ -51,12 +51,12 @@ impl Reference {
     }
 }
 
-impl Bytes {
+impl DictionaryBytes {
     /// Whether they are those of a folder.
     pub fn is_folder(&self) -> bool {
         match self {
-            Bytes::OfFile(_) => false,
-            Bytes::OfShards(_) => true,
+            DictionaryBytes::OfFile(_) => false,
+            DictionaryBytes::OfShards(_) => true,
         }
     }
 
@@ -64,8 +64,8 @@ impl Bytes {
     /// belongs to one shard of several.
     pub fn reference<R: Tell>(&self, rt: &R, name: &str) -> Result<Reference, u8> {
         match self {
-            Bytes::OfFile(bytes) => reference_of_file(rt, name, bytes),
-            Bytes::OfShards(all) => reference_of_shards(rt, name, all),
+            DictionaryBytes::OfFile(bytes) => reference_of_file(rt, name, bytes),
+            DictionaryBytes::OfShards(all) => reference_of_shards(rt, name, all),
         }
     }
 }
@@ -112,7 +112,7 @@ pub fn header_of<R: Tell>(rt: &R, name: &str, bytes: &[u8]) -> Result<Header, u8
 pub fn first_dictionary<'a, R: Files + Input + Tell + AllocGlobal>(
     rt: &R,
     found: &ArgMatches<'a>,
-) -> Result<(&'a str, Bytes), u8> {
+) -> Result<(&'a str, DictionaryBytes), u8> {
     let Some(name) = found.get_str("DICT") else {
         return Err(2);
     };
@@ -123,11 +123,11 @@ pub fn first_dictionary<'a, R: Files + Input + Tell + AllocGlobal>(
 pub fn read_dictionary<R: Files + Input + Tell + AllocGlobal>(
     rt: &R,
     name: &str,
-) -> Result<Bytes, u8> {
+) -> Result<DictionaryBytes, u8> {
     if is_folder(rt, name) {
-        Ok(Bytes::OfShards(read_shards(rt, name)?))
+        Ok(DictionaryBytes::OfShards(read_shards(rt, name)?))
     } else {
-        Ok(Bytes::OfFile(whole(rt, name, &mut Meter::silent())?))
+        Ok(DictionaryBytes::OfFile(whole(rt, name, &mut Meter::silent())?))
     }
 }
 

@@ -20,7 +20,7 @@ use intaglio_columns::interning::{Interned, intern_input};
 use intaglio_columns::progress::Progress;
 use intaglio_columns::sharding::ShardedList;
 use intaglio_columns::{CodeList, ColumnWriteError, RowSource, sourced_column_bytes};
-use intaglio_frozen::{FreezeError, Kind};
+use intaglio_frozen::{FreezeError, FrozenKind};
 use intaglio_hash::KeyedState;
 use intaglio_symbol::Symbol;
 use std::io;
@@ -31,7 +31,7 @@ use std::rt::Files;
 // The dictionary of lines: strings of a kind, under these keys, or under those that the library chooses.
 #[derive(Drop)]
 struct Freezing<'a, R: Files + Input> {
-    kind: Kind,
+    kind: FrozenKind,
     keys: Option<(u64, u64)>,
     inputs: Inputs<'a, R>,
     // The output for the column of the lines.
@@ -55,7 +55,7 @@ pub fn freeze<R: Files + RandomSource + Input + Print + Tell + AllocGlobal>(
     let mut freezing = Freezing {
         kind,
         keys,
-        inputs: Inputs::new(rt, names, kind == Kind::Text, is_shown),
+        inputs: Inputs::new(rt, names, kind == FrozenKind::Text, is_shown),
         column: found.get_str("COLUMN"),
         shown: Shown::new(rt, is_shown),
         count: 0,
@@ -72,10 +72,10 @@ pub fn freeze<R: Files + RandomSource + Input + Print + Tell + AllocGlobal>(
 }
 
 // The arguments take no other kind.
-fn kind_of(found: &ArgMatches<'_>) -> Kind {
+fn kind_of(found: &ArgMatches<'_>) -> FrozenKind {
     match found.get_str("KIND") {
-        Some("text") => Kind::Text,
-        _ => Kind::Bytes,
+        Some("text") => FrozenKind::Text,
+        _ => FrozenKind::Bytes,
     }
 }
 

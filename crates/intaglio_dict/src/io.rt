@@ -1,7 +1,7 @@
 //! What the program `intaglio_dict` reads and writes: its arguments, inputs, outputs and messages.
 
 pub mod apart;
-pub mod checking;
+pub mod tables;
 pub mod command;
 pub mod files;
 pub mod folders;

@@ -1,6 +1,6 @@
 //! The subcommands that look lines or symbols up.
-use crate::dictionaries::{Bytes, first_dictionary, not_trusted, open_shards};
-use crate::io::checking::checked;
+use crate::dictionaries::{DictionaryBytes, first_dictionary, not_trusted, open_shards};
+use crate::io::tables::checked;
 use crate::io::input::{STANDARD_INPUT, name_of};
 use crate::io::metered::{Meter, Metered};
 use crate::io::noticing::Noticing;
@@ -35,9 +35,9 @@ fn find_all<R: Files + Input + Print + Tell + AllocGlobal>(
     let names = found.get_strs("FILE").unwrap_or(STANDARD_INPUT);
     let is_trusted = found.get_flag("TRUSTED");
     match dictionary {
-        Bytes::OfFile(bytes) => find_by(rt, is_trusted, name, &bytes, names),
-        Bytes::OfShards(_) if is_trusted => Err(not_trusted(rt, name)),
-        Bytes::OfShards(all) => match open_shards(rt, name, &all) {
+        DictionaryBytes::OfFile(bytes) => find_by(rt, is_trusted, name, &bytes, names),
+        DictionaryBytes::OfShards(_) if is_trusted => Err(not_trusted(rt, name)),
+        DictionaryBytes::OfShards(all) => match open_shards(rt, name, &all) {
             Ok(shards) => find_in_files(rt, &shards, names),
             Err(status) => Err(status),
         },
@@ -112,9 +112,9 @@ pub fn get<R: Files + Input + Print + Tell + AllocGlobal>(
     let (name, dictionary) = first_dictionary(rt, found)?;
     let is_trusted = found.get_flag("TRUSTED");
     match dictionary {
-        Bytes::OfFile(bytes) => get_by(rt, is_trusted, name, &bytes, typed),
-        Bytes::OfShards(_) if is_trusted => Err(not_trusted(rt, name)),
-        Bytes::OfShards(all) => match open_shards(rt, name, &all) {
+        DictionaryBytes::OfFile(bytes) => get_by(rt, is_trusted, name, &bytes, typed),
+        DictionaryBytes::OfShards(_) if is_trusted => Err(not_trusted(rt, name)),
+        DictionaryBytes::OfShards(all) => match open_shards(rt, name, &all) {
             Ok(shards) => get_from(rt, &shards, name, typed),
             Err(status) => Err(status),
         },

@@ -5,7 +5,7 @@ use crate::io::output::{Bytes, write_to};
 use crate::io::report;
 use crate::io::report::Tell;
 use intaglio_columns::{ColumnWriteError, RowSource, sourced_column_bytes};
-use intaglio_frozen::{Header, Kind, SetId};
+use intaglio_frozen::{Header, FrozenKind, SetId};
 use intaglio_symbol::Symbol;
 use std::random::RandomSource;
 use std::rt::Files;
@@ -62,7 +62,7 @@ impl Maps<'_> {
 fn source_of(from: &Header) -> RowSource {
     RowSource {
         shards: from.place.shards,
-        is_text: from.kind == Kind::Text,
+        is_text: from.kind == FrozenKind::Text,
         hash0: from.place.set.hash0,
         hash1: from.place.set.hash1,
         shard: from.place.shard,

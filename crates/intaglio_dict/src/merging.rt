@@ -6,7 +6,7 @@ use crate::dictionaries::{
 };
 use crate::freezing::{refusal, write_shards};
 use crate::hashing::random_builder;
-use crate::io::checking::{common_kind, tables_of};
+use crate::io::tables::{common_kind, tables_of};
 use crate::io::folders::{is_folder, make_folder, shard_name};
 use crate::io::input::{meter_of, name_of, whole};
 use crate::io::keys::keys_of;

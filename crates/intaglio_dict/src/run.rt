@@ -5,10 +5,10 @@ use crate::column_files::matching::match_rows;
 use crate::column_files::rows::rows;
 use crate::columns::{decode_codes, encode_lines};
 use crate::dictionaries::{
-    Bytes, Reference, first_dictionary, header_of, open_shards, read_dictionary,
+    DictionaryBytes, Reference, first_dictionary, header_of, open_shards, read_dictionary,
 };
 use crate::freezing::freeze;
-use crate::io::checking::checked;
+use crate::io::tables::checked;
 use crate::io::command::files_of;
 use crate::io::noticing::Noticing;
 use crate::io::output::ended;
@@ -22,7 +22,7 @@ use intaglio_columns::begins_as_column;
 use intaglio_columns::dictionary::WholeDictionary;
 use intaglio_columns::look_up::list;
 use intaglio_columns::size::size_of_strings;
-use intaglio_frozen::{Header, Kind};
+use intaglio_frozen::{Header, FrozenKind};
 use intaglio_lines::error::StreamError;
 use std::io;
 use std::io::Write;
@@ -111,10 +111,10 @@ fn check_one<'a, R: Files + Input + Tell + AllocGlobal>(
 fn check_bytes<'a, R: Tell + AllocGlobal>(
     rt: &R,
     name: &'a str,
-    bytes: &Bytes,
+    bytes: &DictionaryBytes,
     last: &mut Option<LastDictionary<'a>>,
 ) -> u8 {
-    if let Bytes::OfFile(file) = bytes {
+    if let DictionaryBytes::OfFile(file) = bytes {
         if begins_as_column(file) {
             return status_of(check_column(rt, *last, name, file));
         }
@@ -132,15 +132,15 @@ fn check_bytes<'a, R: Tell + AllocGlobal>(
 fn check_dictionary<R: Tell + AllocGlobal>(
     rt: &R,
     name: &str,
-    bytes: &Bytes,
+    bytes: &DictionaryBytes,
 ) -> Result<Option<Reference>, u8> {
     match bytes {
-        Bytes::OfFile(file) => {
+        DictionaryBytes::OfFile(file) => {
             checked(rt, name, file)?;
             let header = header_of(rt, name, file)?;
             Ok((header.place.shards == 1).then(|| Reference::of(&header)))
         }
-        Bytes::OfShards(all) => {
+        DictionaryBytes::OfShards(all) => {
             open_shards(rt, name, all)?;
             Ok(Some(bytes.reference(rt, name)?))
         }
@@ -154,11 +154,11 @@ fn on_dictionary<R: Files + Input + Print + Tell + AllocGlobal>(
     found: &ArgMatches<'_>,
 ) -> u8 {
     match first_dictionary(rt, found) {
-        Ok((name, Bytes::OfFile(bytes))) if command == "stat" && begins_as_column(&bytes) => {
+        Ok((name, DictionaryBytes::OfFile(bytes))) if command == "stat" && begins_as_column(&bytes) => {
             stat_column(rt, name, &bytes)
         }
-        Ok((name, Bytes::OfFile(bytes))) => on_file(rt, command, name, &bytes),
-        Ok((name, Bytes::OfShards(all))) => on_shards(rt, command, name, &all),
+        Ok((name, DictionaryBytes::OfFile(bytes))) => on_file(rt, command, name, &bytes),
+        Ok((name, DictionaryBytes::OfShards(all))) => on_shards(rt, command, name, &all),
         Err(status) => status,
     }
 }
@@ -233,7 +233,7 @@ fn write_stat<W: Write, D: WholeDictionary>(
         output,
         "kind {}\nstrings {}\nbytes {}\nbytes a string {}.{}\nlongest {}\n\
          identity {:016x}{:016x}\nshards {}",
-        name_of_kind(header.kind == Kind::Text),
+        name_of_kind(header.kind == FrozenKind::Text),
         size.count,
         length,
         tenths / 10,

@@ -4,8 +4,8 @@ use Rattle.std.specs.Hash.{u64}
 use Rattle.std.specs.Hash.DefaultHasher.{with_keys, write, finish}
 use Rattle.std.specs.List.{fold}
 use Rattle.std.specs.declared.hash.DefaultHasher.{DefaultHasher}
-use Rattle.intaglio_frozen.specs.declared.kind.Kind.{Kind}
-use Rattle.intaglio_frozen.specs.declared.kind.Kind.TheVariants.{Text}
+use Rattle.intaglio_frozen.specs.declared.kind.FrozenKind.{FrozenKind}
+use Rattle.intaglio_frozen.specs.declared.kind.FrozenKind.TheVariants.{Text}
 use Rattle.intaglio_frozen.specs.IsFrozen.{AreTexts, IsFrozen, number_of}
 use Rattle.intaglio_frozen.specs.Layout.{key0, key1, kind as kind_of, strings}
 use Rattle.intaglio_frozen.specs.LookUp.{hash_under}
@@ -15,7 +15,7 @@ use Rattle.intaglio_frozen.specs.declared.error.FreezeError.{FreezeError}
 use Rattle.intaglio_frozen.specs.declared.error.FreezeError.TheVariants.{TooMany, TooLong, Equal, NotUtf8, NoPlaces, Memory}
 
 -- these bytes are a frozen table of this kind, of these strings
-pub record IsTableOf (wanted : Kind) (ws : List (List ℕ)) (bs : List ℕ) : Type 0 where
+pub record IsTableOf (wanted : FrozenKind) (ws : List (List ℕ)) (bs : List ℕ) : Type 0 where
   pub frozen : IsFrozen bs
   pub strings : strings bs ≡ ws
   pub kind : kind_of bs ≡ number_of wanted
@@ -100,14 +100,14 @@ abbrev pub IsFirstEqual : List (List ℕ) → ℕ → ℕ → Type 0
 IsFirstEqual ws i j = AreEqual ws i j × HasNoEqual (take j ws)
 
 -- a table of this kind can have the strings, as far as each by itself and their number and lengths go
-pub record AreAllowed (kind : Kind) (ws : List (List ℕ)) : Type 0 where
+pub record AreAllowed (kind : FrozenKind) (ws : List (List ℕ)) : Type 0 where
   pub few : length ws ≤ 2 ^ 31
   pub short : sum_by length ws < 2 ^ 32
   pub texts : kind ≡ Text → AreTexts ws
 
 -- when each error is returned: the first four for strings that no frozen table of the kind has, the others
 -- for strings without these faults (for `Memory` two may be equal, since memory is needed to find that)
-abbrev pub IsRefusal : Kind → List (List ℕ) → FreezeError → Type 0
+abbrev pub IsRefusal : FrozenKind → List (List ℕ) → FreezeError → Type 0
 IsRefusal kind ws TooMany = 2 ^ 31 < length ws
 IsRefusal kind ws TooLong = 2 ^ 32 ≤ sum_by length ws
 IsRefusal kind ws (Equal i j) = IsFirstEqual ws i j

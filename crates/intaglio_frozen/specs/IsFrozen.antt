@@ -7,14 +7,14 @@ use Rattle.intaglio_frozen.specs.Layout.{kind, key0, key1, count, text_length, o
 use Rattle.intaglio_frozen.specs.LookUp.{FindsAll}
 use Rattle.intaglio_frozen.specs.SetId.{place_in}
 use Rattle.intaglio_frozen.specs.declared.header.Header.{Header}
-use Rattle.intaglio_frozen.specs.declared.kind.Kind.{Kind}
-use Rattle.intaglio_frozen.specs.declared.kind.Kind.TheVariants.{Bytes, Text}
+use Rattle.intaglio_frozen.specs.declared.kind.FrozenKind.{FrozenKind}
+use Rattle.intaglio_frozen.specs.declared.kind.FrozenKind.TheVariants.{Bytes, Text}
 
 -- the kinds: strings of any bytes are 0, texts are 1
 abbrev pub text_kind : ℕ
 text_kind = 1
 
-abbrev pub number_of : Kind → ℕ
+abbrev pub number_of : FrozenKind → ℕ
 number_of Bytes = 0
 number_of Text = text_kind
 

@@ -11,7 +11,7 @@ use crate::ahead::HashesAhead;
 use crate::error::FrozenError;
 use crate::header::HEADER;
 use crate::iter::FrozenStrings;
-use crate::kind::Kind;
+use crate::kind::FrozenKind;
 use crate::list::StringList;
 use crate::numbers::NO_SYMBOL;
 use crate::reader::Reader;
@@ -29,10 +29,10 @@ use std::str;
 ///
 /// ```
 /// # use intaglio::{StrContent, SymbolTable};
-/// # use intaglio_frozen::{Block, Kind, StringList, freeze};
+/// # use intaglio_frozen::{Block, FrozenKind, StringList, freeze};
 /// # let mut words = SymbolTable::new(rt.alloc())?;
 /// # let _symbol = words.intern(StrContent::from("abc"))?;
-/// let bytes = freeze(rt.alloc(), &words, Kind::Text, 1, 2)?;
+/// let bytes = freeze(rt.alloc(), &words, FrozenKind::Text, 1, 2)?;
 /// let block = Block::read(&bytes)?;
 /// assert!(rt; StringList::len(&block) == 1);
 /// ```
@@ -74,14 +74,14 @@ impl<'a> Block<'a> {
     }
 
     // What the strings are.
-    pub(crate) fn kind(&self) -> Kind
+    pub(crate) fn kind(&self) -> FrozenKind
         ensures value { number_of result ≡ kind self.now }
         ensures block { IsBlock self.now }
     {
         if self.reader.sections.kind == 0 {
-            Kind::Bytes
+            FrozenKind::Bytes
         } else {
-            Kind::Text
+            FrozenKind::Text
         }
     }
 

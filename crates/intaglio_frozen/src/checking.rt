@@ -8,7 +8,7 @@ ghost use Rattle.intaglio_frozen.specs.Fault.{IsFault};
 ghost use Rattle.intaglio_frozen.specs.declared.error.FrozenError.TheVariants.{NotFound, NotUtf8};
 
 use crate::block::Block;
-use crate::kind::Kind;
+use crate::kind::FrozenKind;
 use crate::list::first_fault;
 
 // How many strings are hashed before they are looked up, so that the cache misses of their look-ups overlap.
@@ -70,7 +70,7 @@ pub(crate) fn first_no_text(block: &Block<'_>) -> Option<u32>
     // The number of strings is at most 2^32.
     let _count = block.len();
     let kind = block.kind();
-    if kind == Kind::Text && block.is_text() {
+    if kind == FrozenKind::Text && block.is_text() {
         return None;
     }
     first_fault(kind, block)

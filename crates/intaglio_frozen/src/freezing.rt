@@ -18,9 +18,9 @@ use crate::error::FreezeError;
 use crate::hashing::hashes;
 use crate::header::{HEADER, Header, MAGIC, MAX_COUNT, VERSION};
 use crate::id::{DictionaryId, kind_number};
-use crate::kind::Kind;
+use crate::kind::FrozenKind;
 use crate::list::{StringList, first_fault};
-use crate::placing::{Sections, place_all};
+use crate::placing::{PlacedSections, place_all};
 use crate::set_id::{Place, SetId};
 use intaglio_content::same_bytes;
 use intaglio_hash::numbers::read_u64;
@@ -46,7 +46,7 @@ const ATTEMPTS: u64 = 8;
 pub fn freeze<L: StringList>(
     alloc: Global,
     list: &L,
-    kind: Kind,
+    kind: FrozenKind,
     key0: u64,
     key1: u64,
 ) -> Result<Vec<u8>, FreezeError>
@@ -74,7 +74,7 @@ pub fn freeze<L: StringList>(
 pub fn freeze_with_default_keys<L: StringList>(
     alloc: Global,
     list: &L,
-    kind: Kind,
+    kind: FrozenKind,
 ) -> Result<Vec<u8>, FreezeError>
     ensures frozen { IfOk result (λ bytes. IsFrozen bytes.items) }
     ensures strings { IfOk result (λ bytes. strings bytes.items ≡ L.strings list.now) }
@@ -97,7 +97,7 @@ pub fn freeze_with_default_keys<L: StringList>(
 pub fn freeze_at<L: StringList>(
     alloc: Global,
     list: &L,
-    kind: Kind,
+    kind: FrozenKind,
     keys: Option<(u64, u64)>,
     place: Place,
 ) -> Result<Vec<u8>, FreezeError>
@@ -110,7 +110,7 @@ pub fn freeze_at<L: StringList>(
     ensures no_places { IfErr result (λ error. error ≡ NoPlaces → LackPlacesFor keys (L.strings list.now)) }
 {
     check_strings(kind, list)?;
-    let id = DictionaryId::of_list(kind == Kind::Text, list);
+    let id = DictionaryId::of_list(kind == FrozenKind::Text, list);
     match freeze_by(alloc, list, kind, id, place, keys)? {
         Some(bytes) => Ok(bytes),
         None => Err(FreezeError::NoPlaces),
@@ -118,7 +118,7 @@ pub fn freeze_at<L: StringList>(
 }
 
 // Checks all that can be wrong with strings but that two are equal.
-fn check_strings<L: StringList>(kind: Kind, list: &L) -> Result<(), FreezeError>
+fn check_strings<L: StringList>(kind: FrozenKind, list: &L) -> Result<(), FreezeError>
     ensures allowed { IfOk result (λ _. AreAllowed kind (L.strings list.now)) }
     ensures err { IfErr result (IsRefusal kind (L.strings list.now)) }
     ensures others { IfErr result (λ error. error ≢ NoPlaces) }
@@ -140,7 +140,7 @@ fn check_strings<L: StringList>(kind: Kind, list: &L) -> Result<(), FreezeError>
 fn freeze_by<L: StringList>(
     alloc: Global,
     list: &L,
-    kind: Kind,
+    kind: FrozenKind,
     id: DictionaryId,
     place: Place,
     keys: Option<(u64, u64)>,
@@ -176,7 +176,7 @@ fn freeze_by<L: StringList>(
 fn freeze_near<L: StringList>(
     alloc: Global,
     list: &L,
-    kind: Kind,
+    kind: FrozenKind,
     id: DictionaryId,
     place: Place,
     key0: u64,
@@ -209,7 +209,7 @@ fn freeze_near<L: StringList>(
 fn freeze_under<L: StringList>(
     alloc: Global,
     list: &L,
-    kind: Kind,
+    kind: FrozenKind,
     id: DictionaryId,
     place: Place,
     key0: u64,
@@ -261,7 +261,7 @@ fn byte_count<L: StringList>(list: &L) -> u64
 fn holds<L: StringList>(
     bytes: &[u8],
     list: &L,
-    kind: Kind,
+    kind: FrozenKind,
     id: DictionaryId,
     place: Place,
     key0: u64,
@@ -289,7 +289,7 @@ fn holds<L: StringList>(
 }
 
 // Whether a header is that of a table of this kind, at this place and under these keys.
-fn has_header(bytes: &[u8], kind: Kind, place: Place, key0: u64, key1: u64) -> bool
+fn has_header(bytes: &[u8], kind: FrozenKind, place: Place, key0: u64, key1: u64) -> bool
     ensures kind { IsTrue result → kind_of bytes.now ≡ number_of kind }
     ensures place { IsTrue result → IsAt place bytes.now }
     ensures first_key { IsTrue result → key0_of bytes.now ≡ key0 }
@@ -352,7 +352,7 @@ fn assemble<L: StringList>(
     id: DictionaryId,
     place: Place,
     keys: [u64; 2],
-    sections: &Sections,
+    sections: &PlacedSections,
 ) -> Result<Vec<u8>, AllocError> {
     let mut bytes = Vec::with_capacity(alloc, size_of_table(list, sections))?;
     put_header(&mut bytes, keys, byte_count(list), id, place)?;
@@ -367,7 +367,7 @@ fn assemble<L: StringList>(
 }
 
 // How many bytes all sections have.
-fn size_of_table<L: StringList>(list: &L, sections: &Sections) -> usize {
+fn size_of_table<L: StringList>(list: &L, sections: &PlacedSections) -> usize {
     let numbers = (HEADER as u64)
         .saturating_add((sections.symbols.len() as u64).saturating_mul(4))
         .saturating_add((list.len() as u64).saturating_mul(4))

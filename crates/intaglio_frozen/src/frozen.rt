@@ -90,10 +90,10 @@ impl<'a> Frozen<'a> {
     ///
     /// ```
     /// # use intaglio::{StrContent, SymbolTable};
-    /// # use intaglio_frozen::{Frozen, Kind, freeze};
+    /// # use intaglio_frozen::{Frozen, FrozenKind, freeze};
     /// # let mut words = SymbolTable::new(rt.alloc())?;
     /// # let _symbol = words.intern(StrContent::from("abc"))?;
-    /// # let bytes = freeze(rt.alloc(), &words, Kind::Text, 1, 2)?;
+    /// # let bytes = freeze(rt.alloc(), &words, FrozenKind::Text, 1, 2)?;
     /// let table = Frozen::open(&bytes)?;
     /// for (symbol, string) in table.iter() {
     ///     assert!(rt; table.get(symbol) == Some(string));
@@ -156,10 +156,10 @@ impl<'a> Frozen<'a> {
     ///
     /// ```
     /// # use intaglio::{StrContent, SymbolTable};
-    /// # use intaglio_frozen::{Frozen, Kind, freeze};
+    /// # use intaglio_frozen::{Frozen, FrozenKind, freeze};
     /// # let mut words = SymbolTable::new(rt.alloc())?;
     /// # let symbol = words.intern(StrContent::from("abc"))?;
-    /// # let bytes = freeze(rt.alloc(), &words, Kind::Text, 1, 2)?;
+    /// # let bytes = freeze(rt.alloc(), &words, FrozenKind::Text, 1, 2)?;
     /// let table = Frozen::open(&bytes)?;
     /// let strings = [b"abc".as_slice(), b"x".as_slice()];
     /// let found = table.check_all(rt.alloc(), &strings)?;

@@ -6,7 +6,7 @@ ghost use Rattle.intaglio_frozen.specs.Fault.{IsFault};
 
 use crate::error::FrozenError;
 use crate::id::DictionaryId;
-use crate::kind::Kind;
+use crate::kind::FrozenKind;
 use crate::set_id::{Place, SetId};
 use intaglio_hash::numbers::{read_u32, read_u64};
 
@@ -26,7 +26,7 @@ pub(crate) const MAX_COUNT: u64 = 1 << 31;
 #[derive(Debug, Clone, Copy, PartialEq, Eq)]
 pub struct Header {
     /// What the strings are.
-    pub kind: Kind,
+    pub kind: FrozenKind,
     /// The first key of the hasher.
     pub key0: u64,
     /// The second key of the hasher.
@@ -63,7 +63,7 @@ impl Header {
             count: read_u64(bytes, 32),
             text_length: read_u64(bytes, 40),
             id: DictionaryId {
-                is_text: kind == Kind::Text,
+                is_text: kind == FrozenKind::Text,
                 count: read_u64(bytes, 32),
                 hash0: read_u64(bytes, 48),
                 hash1: read_u64(bytes, 56),
@@ -81,7 +81,7 @@ impl Header {
 }
 
 // The kind, after the magic and the version.
-fn read_kind(bytes: &[u8]) -> Result<Kind, FrozenError>
+fn read_kind(bytes: &[u8]) -> Result<FrozenKind, FrozenError>
     ensures kind { IfOk result (λ found. number_of found ≡ kind bytes.now) }
     ensures ok { IfOk result (λ _. HasKind bytes.now) }
     ensures only { HasKind bytes.now → IsOk result }
@@ -102,8 +102,8 @@ fn read_kind(bytes: &[u8]) -> Result<Kind, FrozenError>
         return Err(FrozenError::Truncated);
     }
     match read_u32(bytes, 12) {
-        0 => Ok(Kind::Bytes),
-        1 => Ok(Kind::Text),
+        0 => Ok(FrozenKind::Bytes),
+        1 => Ok(FrozenKind::Text),
         _ => Err(FrozenError::Kind),
     }
 }

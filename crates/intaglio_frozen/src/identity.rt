@@ -19,13 +19,13 @@ use crate::reader::Reader;
 ///
 /// ```
 /// # use intaglio::SymbolTable;
-/// # use intaglio_frozen::{Kind, freeze, id_of_table};
+/// # use intaglio_frozen::{FrozenKind, freeze, id_of_table};
 /// # let mut table = SymbolTable::new(rt.alloc())?;
 /// # let _symbol = table.get_or_intern("rose")?;
-/// let dictionary = freeze(rt.alloc(), &table, Kind::Text, 0, 0)?;
-/// let again = freeze(rt.alloc(), &table, Kind::Text, 5, 6)?;
+/// let dictionary = freeze(rt.alloc(), &table, FrozenKind::Text, 0, 0)?;
+/// let again = freeze(rt.alloc(), &table, FrozenKind::Text, 5, 6)?;
 /// assert!(rt; id_of_table(&again)? == id_of_table(&dictionary)?);
-/// let of_bytes = freeze(rt.alloc(), &table, Kind::Bytes, 0, 0)?;
+/// let of_bytes = freeze(rt.alloc(), &table, FrozenKind::Bytes, 0, 0)?;
 /// assert!(rt; id_of_table(&of_bytes)? != id_of_table(&dictionary)?);
 /// ```
 pub fn id_of_table(table: &[u8]) -> Result<DictionaryId, FrozenError>

@@ -19,10 +19,10 @@ use std::hash::BuildHasher;
 /// ```
 /// # use intaglio::SymbolTable;
 /// # use intaglio_frozen::laws::spelling_law;
-/// # use intaglio_frozen::{Frozen, Kind, freeze};
+/// # use intaglio_frozen::{Frozen, FrozenKind, freeze};
 /// # let mut table = SymbolTable::new(rt.alloc())?;
 /// # let _symbol = table.get_or_intern("rose")?;
-/// let bytes = freeze(rt.alloc(), &table, Kind::Text, 0, 0)?;
+/// let bytes = freeze(rt.alloc(), &table, FrozenKind::Text, 0, 0)?;
 /// let frozen = Frozen::open(&bytes)?;
 /// let of_frozen = frozen.check_interned(b"rose");
 /// let of_table = table.check_interned("rose");

@@ -52,7 +52,7 @@ pub use header::Header;
 pub use id::{DictionaryId, kind_number};
 pub use identity::id_of_table;
 pub use iter::{FrozenPairs, FrozenStrings};
-pub use kind::Kind;
+pub use kind::FrozenKind;
 pub use list::StringList;
 pub use merging::{Merged, merge_tables};
 pub use sections::Sections;

@@ -3,9 +3,9 @@ ghost use Rattle.std.specs.Prelude.{◌≡◌, ◌<◌, ◌≤◌, ◌^◌, ℕ,
 ghost use Rattle.intaglio_records.specs.Records.{strings_of};
 ghost use Rattle.intaglio_frozen.specs.IsFrozen.{AreTexts};
 ghost use Rattle.intaglio_frozen.specs.Fault.{IsNoText};
-ghost use Rattle.intaglio_frozen.specs.declared.kind.Kind.TheVariants.{Text};
+ghost use Rattle.intaglio_frozen.specs.declared.kind.FrozenKind.TheVariants.{Text};
 
-use crate::kind::Kind;
+use crate::kind::FrozenKind;
 use intaglio::{Table, TableOver};
 use intaglio_content::Spelled;
 use intaglio_core::BaseInterner;
@@ -28,7 +28,7 @@ pub trait StringList {
         ensures { slice_get (strings self.now) i ≡ Some result.now };
 }
 
-impl<K: intaglio_content::Kind> StringList for Packed<K> {
+impl<K: intaglio_content::StringKind> StringList for Packed<K> {
     ghost strings = { λ list. strings_of list };
 
     #[inline(always)]
@@ -86,7 +86,7 @@ impl<C: Spelled, S: BuildHasher> StringList for Table<C, S> {
     }
 }
 
-impl<K: intaglio_content::Kind, S: BuildHasher> StringList for TableOver<Packed<K>, S> {
+impl<K: intaglio_content::StringKind, S: BuildHasher> StringList for TableOver<Packed<K>, S> {
     ghost strings = { λ table. table.state.contents };
 
     #[inline(always)]
@@ -101,14 +101,14 @@ impl<K: intaglio_content::Kind, S: BuildHasher> StringList for TableOver<Packed<
 }
 
 // The first string that can't be one of a table of this kind.
-pub(crate) fn first_fault<L: StringList>(kind: Kind, list: &L) -> Option<u32>
+pub(crate) fn first_fault<L: StringList>(kind: FrozenKind, list: &L) -> Option<u32>
     requires { length (L.strings list.now) ≤ 2 ^ 32 }
     ensures texts { kind ≡ Text → result ≡ None → AreTexts (L.strings list.now) }
     ensures fault { IfSome result (λ i. (kind ≡ Text) × IsNoText (L.strings list.now) i) }
 {
     match kind {
-        Kind::Bytes => None,
-        Kind::Text => first_not_utf8(list),
+        FrozenKind::Bytes => None,
+        FrozenKind::Text => first_not_utf8(list),
     }
 }
 

@@ -11,7 +11,7 @@ use std::alloc::{AllocError, Global};
 
 /// The sections that a look-up reads before the strings.
 #[derive(Drop)]
-pub(crate) struct Sections {
+pub(crate) struct PlacedSections {
     pub(crate) symbols: Vec<u32>,
     pub(crate) pilots: Vec<u16>,
     pub(crate) tags: Vec<u8>,
@@ -19,7 +19,7 @@ pub(crate) struct Sections {
 
 // The sections for these hashes, which are those of the symbols 0, 1, 2 and so on, or nothing if there is no
 // place for one.
-pub(crate) fn place_all(alloc: Global, hashes: &[u64]) -> Result<Option<Sections>, AllocError>
+pub(crate) fn place_all(alloc: Global, hashes: &[u64]) -> Result<Option<PlacedSections>, AllocError>
     requires { length hashes.now ≤ 2 ^ 31 }
     ensures { IfOk result (λ found. found ≡ None → IsStuck hashes.now) }
 {
@@ -42,7 +42,7 @@ pub(crate) fn place_all(alloc: Global, hashes: &[u64]) -> Result<Option<Sections
         &mut tags,
     );
     match failed {
-        None => Ok(Some(Sections {
+        None => Ok(Some(PlacedSections {
             symbols,
             pilots,
             tags,

@@ -8,7 +8,7 @@ ghost use Rattle.intaglio_frozen.specs.Fault.{IsFault};
 
 use crate::error::FrozenError;
 use crate::header::{HEADER, Header};
-use crate::kind::Kind;
+use crate::kind::FrozenKind;
 use crate::numbers::{groups_for, places_for};
 use crate::reader::Reader;
 use intaglio_symbol::Symbol;
@@ -23,10 +23,10 @@ use intaglio_symbol::Symbol;
 ///
 /// ```
 /// # use intaglio::{StrContent, SymbolTable};
-/// # use intaglio_frozen::{Kind, Sections, freeze};
+/// # use intaglio_frozen::{FrozenKind, Sections, freeze};
 /// # let mut words = SymbolTable::new(rt.alloc())?;
 /// # let symbol = words.intern(StrContent::from("abc"))?;
-/// let bytes = freeze(rt.alloc(), &words, Kind::Text, 1, 2)?;
+/// let bytes = freeze(rt.alloc(), &words, FrozenKind::Text, 1, 2)?;
 /// let sections = Sections::read(&bytes)?;
 /// assert!(rt; sections.check_interned(&bytes, b"abc") == Some(symbol));
 /// assert!(rt; sections.get(&bytes, symbol) == Some(b"abc".as_slice()));
@@ -94,8 +94,8 @@ impl Sections {
             places: places as u32,
             groups: groups as u32,
             kind: match header.kind {
-                Kind::Bytes => 0,
-                Kind::Text => 1,
+                FrozenKind::Bytes => 0,
+                FrozenKind::Text => 1,
             },
         })
     }

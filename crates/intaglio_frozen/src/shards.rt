@@ -82,11 +82,11 @@ impl<'a> Shards<'a> {
     /// ```ignore (the borrow checker doesn't cover this function yet)
     /// # use intaglio::{StrContent, Symbol, SymbolTable};
     /// # use intaglio_frozen::Shards;
-    /// # use intaglio_frozen::{Frozen, Kind, freeze};
+    /// # use intaglio_frozen::{Frozen, FrozenKind, freeze};
     /// # let alloc = rt.alloc();
     /// # let mut words = SymbolTable::new(alloc)?;
     /// # let _symbol = words.intern(StrContent::from("rose"))?;
-    /// # let bytes = freeze(alloc, &words, Kind::Text, 1, 2)?;
+    /// # let bytes = freeze(alloc, &words, FrozenKind::Text, 1, 2)?;
     /// let mut tables = Vec::new(alloc);
     /// tables.push(Frozen::open(&bytes)?)?;
     /// let shards = Shards::open(alloc, tables)?;
@@ -213,10 +213,10 @@ fn check_each(tables: &[Frozen<'_>], count: u32) -> Result<(), ShardsError>
 /// ```
 /// # use intaglio::SymbolTable;
 /// # use intaglio_frozen::{first_misplaced, shard_of};
-/// # use intaglio_frozen::{Frozen, Kind, freeze};
+/// # use intaglio_frozen::{Frozen, FrozenKind, freeze};
 /// # let mut words = SymbolTable::new(rt.alloc())?;
 /// # let _symbol = words.get_or_intern("rose")?;
-/// # let bytes = freeze(rt.alloc(), &words, Kind::Text, 1, 2)?;
+/// # let bytes = freeze(rt.alloc(), &words, FrozenKind::Text, 1, 2)?;
 /// let table = Frozen::open(&bytes)?;
 /// let shard = shard_of(b"rose", 4);
 /// assert!(rt; first_misplaced(&table, 4, shard) == None);

@@ -22,11 +22,11 @@ impl<'a> Frozen<'a> {
     ///
     /// ```
     /// # use intaglio::packed::bytes::SymbolTable;
-    /// # use intaglio_frozen::{Frozen, Kind, freeze};
+    /// # use intaglio_frozen::{Frozen, FrozenKind, freeze};
     /// # use intaglio_hash::FixedState;
     /// # let mut words = SymbolTable::new(rt.alloc())?;
     /// # let symbol = words.get_or_intern(b"abc")?;
-    /// let bytes = freeze(rt.alloc(), &words, Kind::Bytes, 1, 2)?;
+    /// let bytes = freeze(rt.alloc(), &words, FrozenKind::Bytes, 1, 2)?;
     /// let frozen = Frozen::open(&bytes)?;
     /// let thawed: SymbolTable = frozen.thaw(rt.alloc(), FixedState)?;
     /// assert!(rt; thawed.get(symbol) == Some(b"abc".as_slice()));

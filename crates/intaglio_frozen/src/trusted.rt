@@ -22,10 +22,10 @@ use std::marker::Model;
 ///
 /// ```
 /// # use intaglio::{StrContent, SymbolTable};
-/// # use intaglio_frozen::{Kind, TrustedFrozen, freeze};
+/// # use intaglio_frozen::{FrozenKind, TrustedFrozen, freeze};
 /// # let mut words = SymbolTable::new(rt.alloc())?;
 /// # let symbol = words.intern(StrContent::from("abc"))?;
-/// let bytes = freeze(rt.alloc(), &words, Kind::Text, 1, 2)?;
+/// let bytes = freeze(rt.alloc(), &words, FrozenKind::Text, 1, 2)?;
 /// let table = TrustedFrozen::open(&bytes)?;
 /// assert!(rt; table.check_interned(b"abc") == Some(symbol));
 /// assert!(rt; table.get(symbol) == Some(b"abc".as_slice()));

@@ -10,7 +10,7 @@ use bstr::BStr;
 use intaglio_bytes::b_str::BStrKind;
 use intaglio_bytes::bytes::BytesKind;
 use intaglio_content::{
-    Content, ContentOf, CopiedTo, Keyed, Kind, KindOwned, Packable, PackedForm, Spelling,
+    Content, ContentOf, CopiedTo, Keyed, StringKind, KindOwned, Packable, PackedForm, Spelling,
     SpellingStore, Spells, Store,
 };
 use intaglio_cstr::{CStrKind, first_zero};
@@ -45,7 +45,7 @@ where
 
 /// A kind whose strings can be lines of an input: what [`FromLine`] says of its
 /// contents, wherever they are stored.
-pub trait LineKind<'a>: Kind {
+pub trait LineKind<'a>: StringKind {
     /// The form of a line.
     type Line: Packable<Self> + Copy;
 

@@ -2,7 +2,7 @@
 ghost use Rattle.std.specs.Prelude.{◌≡◌, ◌<◌, length, min, slice_get, Some};
 ghost use Rattle.intaglio_records.specs.Records.{strings_of};
 
-use intaglio_content::Kind;
+use intaglio_content::StringKind;
 use intaglio_records::StringRecords;
 use std::marker::{Model, PhantomData};
 
@@ -12,12 +12,12 @@ use std::marker::{Model, PhantomData};
 /// A contract sees the list of pairs of a hash and a spelling, and the room for
 /// further ones and for further bytes.
 #[derive(Drop)]
-pub struct Packed<K: Kind> {
+pub struct Packed<K: StringKind> {
     pub(crate) records: StringRecords,
     pub(crate) kind: PhantomData<K>,
 }
 
-impl<K: Kind> Model for Packed<K> {
+impl<K: StringKind> Model for Packed<K> {
     ghost use Rattle.std.specs.Prelude.{All};
     ghost use Rattle.intaglio_records.specs.Records.{Records, records_code, strings_of};
 
@@ -30,7 +30,7 @@ impl<K: Kind> Model for Packed<K> {
     ghost invariant = { λ packed. All K.is_spelling (strings_of packed.records) };
 }
 
-impl<K: Kind> Packed<K> {
+impl<K: StringKind> Packed<K> {
     /// The spellings as strings of bytes.
     #[inline(always)]
     pub fn records(&self) -> &StringRecords

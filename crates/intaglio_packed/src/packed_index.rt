@@ -8,17 +8,17 @@ ghost use Rattle.intaglio_packed.specs.PackedIndex.{room_with, state_over, Stays
 ghost use Rattle.intaglio_records.specs.Records.{record_room_of};
 
 use crate::packed::Packed;
-use intaglio_content::{AddedTo, ByteStore, Content, Kind, SoughtIn, Spelling, Store, Work};
+use intaglio_content::{AddedTo, ByteStore, Content, StringKind, SoughtIn, Spelling, Store, Work};
 use intaglio_core::{IndexOf, Indexed};
 use intaglio_records::RecordIndex;
 use intaglio_symbol::Symbol;
 use std::alloc::{AllocError, Global};
 
-impl<K: Kind> Indexed for Packed<K> {
+impl<K: StringKind> Indexed for Packed<K> {
     type Index = RecordIndex;
 }
 
-impl<K: Kind> IndexOf<Packed<K>> for RecordIndex {
+impl<K: StringKind> IndexOf<Packed<K>> for RecordIndex {
     ghost state = { λ index list. state_over list index };
 
     ghost is_over = { λ index list. IsOver list.list (record_room_of list) index };
@@ -157,7 +157,7 @@ impl<K: Kind> IndexOf<Packed<K>> for RecordIndex {
 }
 
 // Makes an index that is made for as many strings as are given here. Records a placement for each string.
-fn rebuild<K: Kind>(
+fn rebuild<K: StringKind>(
     index: &mut RecordIndex,
     list: &Packed<K>,
     places: usize,
@@ -178,7 +178,7 @@ fn rebuild<K: Kind>(
 }
 
 // Makes room in the list for this many more strings, all of which the index can reach.
-fn reserve_in<K: Kind>(
+fn reserve_in<K: StringKind>(
     index: &mut RecordIndex,
     list: &mut Packed<K>,
     additional: usize,
@@ -202,7 +202,7 @@ fn reserve_in<K: Kind>(
 // Has the index reach all of the list's room, after that has grown from `spare` bytes. If there is no memory
 // for that, the list gives up what it has above them.
 #[inline(always)]
-fn reach_bytes<K: Kind>(
+fn reach_bytes<K: StringKind>(
     index: &mut RecordIndex,
     list: &mut Packed<K>,
     spare: usize,

@@ -4,13 +4,13 @@ ghost use Rattle.intaglio_records.specs.Records.{hashes_of, strings_of};
 
 use crate::packed::Packed;
 use intaglio_content::{
-    ByteStore, Kind, Lends, LookedUpIn, PackedForm, SpelledStore, Spelling, SpellingStore, Store,
+    ByteStore, StringKind, Lends, LookedUpIn, PackedForm, SpelledStore, Spelling, SpellingStore, Store,
 };
 use intaglio_records::StringRecords;
 use std::alloc::{AllocError, Global};
 use std::marker::PhantomData;
 
-impl<K: Kind> Store for Packed<K> {
+impl<K: StringKind> Store for Packed<K> {
     type Content = Spelling<K>;
 
     type Prepared = ();
@@ -77,7 +77,7 @@ impl<K: Kind> Store for Packed<K> {
     }
 }
 
-impl<K: Kind> ByteStore for Packed<K> {
+impl<K: StringKind> ByteStore for Packed<K> {
     fn byte_count(&self) -> usize {
         self.records.byte_count()
     }
@@ -87,7 +87,7 @@ impl<K: Kind> ByteStore for Packed<K> {
     }
 }
 
-impl<K: Kind> SpellingStore for Packed<K> {
+impl<K: StringKind> SpellingStore for Packed<K> {
     type SpellingKind = K;
 
     #[inline(always)]
@@ -114,7 +114,7 @@ impl<'a, K: PackedForm<'a>> Lends<'a> for Packed<K> {
     }
 }
 
-impl<K: Kind> SpelledStore for Packed<K> {
+impl<K: StringKind> SpelledStore for Packed<K> {
     fn spelling_at(&self, i: usize) -> Option<&[u8]> {
         self.records.get(i)
     }

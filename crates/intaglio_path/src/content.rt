@@ -4,7 +4,7 @@ ghost use Rattle.intaglio_path.specs.Components.{components};
 ghost use Rattle.intaglio_path.specs.Path.{path_text};
 
 use crate::path::Path;
-use intaglio_content::{ContentOf, Keyed, Kind, KindForm, KindOwned, Packable, PackedForm, Spells};
+use intaglio_content::{ContentOf, Keyed, StringKind, KindForm, KindOwned, Packable, PackedForm, Spells};
 use std::alloc::{AllocError, Global};
 use std::hash::{Hash, Hasher};
 use std::str;
@@ -15,7 +15,7 @@ pub struct PathKind;
 /// A path that a table stores: a `&'static str` or a `String`.
 pub type PathContent = ContentOf<PathKind>;
 
-impl Kind for PathKind {
+impl StringKind for PathKind {
     ghost key_of = { components };
 
     ghost is_spelling = { IsUtf8 };

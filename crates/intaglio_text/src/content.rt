@@ -2,7 +2,7 @@
 ghost use Rattle.std.specs.Prelude.{[], ◌∷◌, refl, IsUtf8, string_bytes};
 
 use intaglio_content::{
-    ContentOf, Kind, KindForm, KindOwned, Packable, PackedForm, Spells, feed_item, same_bytes,
+    ContentOf, StringKind, KindForm, KindOwned, Packable, PackedForm, Spells, feed_item, same_bytes,
 };
 use std::alloc::{AllocError, Global};
 use std::hash::Hasher;
@@ -33,7 +33,7 @@ pub type StrContent = ContentOf<StrKind>;
 /// An OS string that a table stores: a `&'static str` or a `String`.
 pub type OsStrContent = ContentOf<OsStrKind>;
 
-impl<M> Kind for Utf8<M> {
+impl<M> StringKind for Utf8<M> {
     ghost key_of = { λ bytes. bytes ∷ [] };
 
     ghost is_spelling = { IsUtf8 };

@@ -1,6 +1,6 @@
 //! Opens a column and its dictionary, and refuses those that don't belong together.
-use crate::dictionaries::{Bytes, Reference, first_dictionary, not_trusted, open_shards};
-use crate::io::checking::checked;
+use crate::dictionaries::{DictionaryBytes, Reference, first_dictionary, not_trusted, open_shards};
+use crate::io::tables::checked;
 use crate::io::input::{first_input, name_of};
 use crate::io::report;
 use crate::io::report::Tell;
@@ -55,9 +55,9 @@ pub fn ask<R: Files + Input + Tell + AllocGlobal, Q: Question<R>>(
         bytes: &bytes,
     };
     match table {
-        Bytes::OfFile(table) if is_trusted => ask_trusted(rt, pair, &table, question),
-        Bytes::OfFile(table) => ask_checked(rt, pair, &table, question),
-        Bytes::OfShards(all) => ask_shards(rt, pair, &all, question),
+        DictionaryBytes::OfFile(table) if is_trusted => ask_trusted(rt, pair, &table, question),
+        DictionaryBytes::OfFile(table) => ask_checked(rt, pair, &table, question),
+        DictionaryBytes::OfShards(all) => ask_shards(rt, pair, &all, question),
     }
 }
 

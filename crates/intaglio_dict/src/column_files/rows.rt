@@ -1,7 +1,7 @@
 //! The subcommand that writes lines by the numbers of their rows.
 use crate::column_files::excerpt::{OpenColumn, is_file, open_column};
 use crate::column_files::opening::{Question, ask, no_column, other_dictionary};
-use crate::dictionaries::{Bytes, Reference, first_dictionary, not_trusted};
+use crate::dictionaries::{DictionaryBytes, Reference, first_dictionary, not_trusted};
 use crate::io::input::name_of;
 use crate::io::noticing::Noticing;
 use crate::io::output::OUTPUT;
@@ -58,8 +58,8 @@ fn rows_of_file<R: Files + Input + Print + Tell + AllocGlobal>(
     let (dictionary, table) = first_dictionary(rt, found)?;
     let reference = table.reference(rt, dictionary)?;
     match table {
-        Bytes::OfFile(bytes) => rows.answer_trusted(rt, name, dictionary, reference, &bytes),
-        Bytes::OfShards(_all) => Err(not_trusted(rt, dictionary)),
+        DictionaryBytes::OfFile(bytes) => rows.answer_trusted(rt, name, dictionary, reference, &bytes),
+        DictionaryBytes::OfShards(_all) => Err(not_trusted(rt, dictionary)),
     }
 }
 

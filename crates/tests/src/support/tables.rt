@@ -7,7 +7,7 @@ use intaglio::{
     BaseInterner, Call, Content, ContentOf, Copied, Indexed, InternError, Mark, Moved, Reply,
     RoomError, SoughtIn, SpelledStore, Symbol, Table, TableOver, Work, intern_all, run,
 };
-use intaglio_frozen::{FreezeError, Kind, freeze};
+use intaglio_frozen::{FreezeError, FrozenKind, freeze};
 use intaglio_hash::FixedState;
 use std::alloc::{AllocError, Global};
 use std::hash::BuildHasher;
@@ -161,7 +161,7 @@ impl<K: TestKind, S: HasherCount> TestTable for Table<ContentOf<K>, S> {
     }
 
     fn freeze(&self, alloc: Global) -> Result<Vec<u8>, FreezeError> {
-        freeze(alloc, self, Kind::Bytes, 0, 0)
+        freeze(alloc, self, FrozenKind::Bytes, 0, 0)
     }
 }
 
@@ -198,7 +198,7 @@ impl<K: TestKind, S: HasherCount> TestTable for TableOver<Packed<K>, S> {
     }
 
     fn freeze(&self, alloc: Global) -> Result<Vec<u8>, FreezeError> {
-        freeze(alloc, self, Kind::Bytes, 0, 0)
+        freeze(alloc, self, FrozenKind::Bytes, 0, 0)
     }
 }
 

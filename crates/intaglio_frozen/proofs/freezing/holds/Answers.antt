@@ -3,12 +3,12 @@
 use Rattle.std.proofs.Common.{rules, ◌≡◌, refl, sym, ◌∙◌}
 use Rattle.intaglio_frozen.specs.Layout.{kind as kind_of, strings}
 use Rattle.intaglio_frozen.proofs.Names.{number_of, text_kind}
-use Rattle.intaglio_frozen.specs.declared.kind.Kind.{Kind}
-use Rattle.intaglio_frozen.specs.declared.kind.Kind.TheVariants.{Bytes, Text}
+use Rattle.intaglio_frozen.specs.declared.kind.FrozenKind.{FrozenKind}
+use Rattle.intaglio_frozen.specs.declared.kind.FrozenKind.TheVariants.{Bytes, Text}
 use Rattle.intaglio_frozen.proofs.freezing.holds.Goals as goal
 
 -- the kind with the number of texts is that of texts
-text_of : (kind : Kind) → number_of kind ≡ text_kind → kind ≡ Text
+text_of : (kind : FrozenKind) → number_of kind ≡ text_kind → kind ≡ Text
 text_of Bytes e = cc
 text_of Text e = refl
 

@@ -4,7 +4,7 @@ use super::packing::packed_of;
 use crate::support::kinds::Host;
 use crate::tests::assertions::same;
 use intaglio::packed::{StrKind, SymbolTable};
-use intaglio_frozen::{FreezeError, Header, Kind, StringList, freeze, freeze_with_default_keys};
+use intaglio_frozen::{FreezeError, Header, FrozenKind, StringList, freeze, freeze_with_default_keys};
 use intaglio_hash::KeyedState;
 use std::hash::{BuildHasher, Hasher};
 use std::process::Abort;
@@ -42,26 +42,26 @@ fn has(rt: &impl Abort, bytes: &[u8], keys: (u64, u64), hash: u64) {
 }
 
 // The list frozen under the keys 0 and 0.
-fn frozen<L: StringList>(rt: &impl Host, list: &L, kind: Kind) -> Vec<u8> {
+fn frozen<L: StringList>(rt: &impl Host, list: &L, kind: FrozenKind) -> Vec<u8> {
     freeze(rt.alloc(), list, kind, 0, 0).expect(rt, "not frozen")
 }
 
 // The list frozen without keys.
-fn frozen_by_default<L: StringList>(rt: &impl Host, list: &L, kind: Kind) -> Vec<u8> {
+fn frozen_by_default<L: StringList>(rt: &impl Host, list: &L, kind: FrozenKind) -> Vec<u8> {
     freeze_with_default_keys(rt.alloc(), list, kind).expect(rt, "not frozen")
 }
 
 #[test]
 fn the_first_keys_that_serve_are_taken(rt: HostRuntime) {
     let table = of_words(&rt, UNDER_ONE);
-    let bytes = frozen(&rt, &table, Kind::Bytes);
+    let bytes = frozen(&rt, &table, FrozenKind::Bytes);
     has(&rt, &bytes, (1, 0), 1_153_101_347_055_206_373);
 }
 
 #[test]
 fn keys_are_drawn_from_strings_after_the_first_eight(rt: HostRuntime) {
     let table = of_words(&rt, UNDER_EIGHT);
-    let bytes = frozen_by_default(&rt, &table, Kind::Bytes);
+    let bytes = frozen_by_default(&rt, &table, FrozenKind::Bytes);
     let keys = (10_087_741_285_488_634_726, 4_955_475_991_202_912_833);
     has(&rt, &bytes, keys, 17_246_542_960_659_430_143);
 }
@@ -69,8 +69,8 @@ fn keys_are_drawn_from_strings_after_the_first_eight(rt: HostRuntime) {
 #[test]
 fn without_keys_the_first_are_0_and_0(rt: HostRuntime) {
     let table = of_words(&rt, UNDER_ONE);
-    let given = frozen(&rt, &table, Kind::Text);
-    let bytes = frozen_by_default(&rt, &table, Kind::Text);
+    let given = frozen(&rt, &table, FrozenKind::Text);
+    let bytes = frozen_by_default(&rt, &table, FrozenKind::Text);
     same(&rt, bytes.as_slice(), given.as_slice());
 }
 
@@ -82,8 +82,8 @@ fn the_first_string_that_is_equal_to_an_earlier_one_is_named(rt: HostRuntime) {
         .collect(rt.alloc())
         .expect(&rt, "memory");
     let error = FreezeError::Equal(1, 3);
-    let refused = freeze(rt.alloc(), &words, Kind::Bytes, 0, 0);
+    let refused = freeze(rt.alloc(), &words, FrozenKind::Bytes, 0, 0);
     same(&rt, refused.err(), Some(error));
-    let refused = freeze_with_default_keys(rt.alloc(), &words, Kind::Text);
+    let refused = freeze_with_default_keys(rt.alloc(), &words, FrozenKind::Text);
     same(&rt, refused.err(), Some(error));
 }

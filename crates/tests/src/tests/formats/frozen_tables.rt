@@ -5,7 +5,7 @@ use intaglio::packed::bytes::SymbolTable;
 use intaglio::packed::{Packed, PackedForm};
 use intaglio::{Symbol, TableOver};
 use intaglio_frozen::{
-    DictionaryId, Frozen, FrozenError, Header, Kind, Place, SetId, StringList, TrustedFrozen,
+    DictionaryId, Frozen, FrozenError, Header, FrozenKind, Place, SetId, StringList, TrustedFrozen,
     freeze, freeze_at,
 };
 use intaglio_hash::FixedState;
@@ -57,7 +57,7 @@ fn the_same_strings_are_frozen_to_the_same_bytes(rt: HostRuntime) {
 
 // Asserts that a list is frozen to the bytes of the table.
 fn freezes<L: StringList>(rt: &impl Host, list: &L) {
-    let bytes = freeze(rt.alloc(), list, Kind::Bytes, 1, 2).expect(rt, "not frozen");
+    let bytes = freeze(rt.alloc(), list, FrozenKind::Bytes, 1, 2).expect(rt, "not frozen");
     same(rt, bytes.as_slice(), TABLE.as_slice());
 }
 
@@ -208,7 +208,7 @@ fn table_at(rt: &impl Host, set: SetId, shards: u32, shard: u32) -> Vec<u8> {
     let place = Place { set, shards, shard };
     let keys = Some((1, 2));
     assert!(rt; shard < shards);
-    let bytes = freeze_at(rt.alloc(), &strings.as_slice(), Kind::Bytes, keys, place);
+    let bytes = freeze_at(rt.alloc(), &strings.as_slice(), FrozenKind::Bytes, keys, place);
     bytes.expect(rt, "not frozen")
 }
 

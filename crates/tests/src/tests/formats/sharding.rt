@@ -6,7 +6,7 @@ use crate::tests::assertions::{holds, same};
 use intaglio::packed::bytes::{BytesKind, SymbolTable};
 use intaglio_core::Symbol;
 use intaglio_frozen::{
-    Frozen, Kind, Shards, ShardsError, StringList, freeze, shard_of, split_with_map,
+    Frozen, FrozenKind, Shards, ShardsError, StringList, freeze, shard_of, split_with_map,
 };
 
 const COUNT: u32 = 3;
@@ -37,7 +37,7 @@ fn frozen_shards<L: StringList>(rt: &impl Host, list: &L) -> Vec<Vec<u8>> {
     assert!(rt; list.len() == 50);
     let (shards, _map) = split_with_map(rt.alloc(), list, COUNT).expect(rt, "memory");
     for shard in shards {
-        let block = freeze(rt.alloc(), &shard, Kind::Bytes, 1, 2).expect(rt, "a frozen table");
+        let block = freeze(rt.alloc(), &shard, FrozenKind::Bytes, 1, 2).expect(rt, "a frozen table");
         blocks.push(block).expect(rt, "memory");
     }
     blocks

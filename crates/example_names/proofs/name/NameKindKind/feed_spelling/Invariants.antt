@@ -1,7 +1,7 @@
 use Rattle.std.proofs.Common.{◌≡◌, fold, length}
 use Rattle.intaglio_content.specs.Key.{feed}
 use Rattle.example_names.specs.Letters.{letters}
-use Rattle.example_names.proofs.name.NameKindKind.feed_spelling.Given as goal
+use Rattle.example_names.proofs.name.NameKindStringKind.feed_spelling.Given as goal
 
 -- what is still to be written is what the letters that are left feed
 abbrev pub invariant-loop-rest : goal.invariant-loop-rest

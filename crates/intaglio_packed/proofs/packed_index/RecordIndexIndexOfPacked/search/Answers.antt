@@ -16,7 +16,7 @@ use Rattle.intaglio_packed.proofs.packed_index.RecordIndexIndexOfPacked.search.G
 -- the number of the next string, and those that are left behind it
 next_in : (g : Over) (c : In-Some g) →
     (rest : List ℕ) × IsLeft c.args.list.now.list c.args.hash c.next.new.self rest
-    × IsSearching (map g.K.Kind.key_of (strings_of c.args.list.now)) (g.Q.Keyed.key c.args.sought.now) 0
+    × IsSearching (map g.K.StringKind.key_of (strings_of c.args.list.now)) (g.Q.Keyed.key c.args.sought.now) 0
     c.loop-found.invariant.0 (c.in-Some.found.0 ∷ rest) c.args.work.now.events c.loop-found.work.events
     × (c.in-Some.found.0 < length (strings_of c.args.list.now))
 next_in g c =
@@ -35,45 +35,45 @@ next_in g c =
 
 -- it has the key
 met : (g : Over) (c : In-Some g) (later : List Event) →
-    IsCompared g.K.Kind.key_of (strings_of c.args.list.now) c.in-Some.found.0
+    IsCompared g.K.StringKind.key_of (strings_of c.args.list.now) c.in-Some.found.0
     (g.Q.Keyed.key c.args.sought.now)
     true c.loop-found.work.events later
-    → (h : Key → ℕ) → AreHashed g.K.Kind.key_of h (strings_of c.args.list.now) (hashes_of c.args.list.now)
+    → (h : Key → ℕ) → AreHashed g.K.StringKind.key_of h (strings_of c.args.list.now) (hashes_of c.args.list.now)
     (g.Q.Keyed.key c.args.sought.now) c.args.hash
-    → (Some c.in-Some.found.0 ≡ first g.K.Kind.key_of (strings_of c.args.list.now)
+    → (Some c.in-Some.found.0 ≡ first g.K.StringKind.key_of (strings_of c.args.list.now)
     (g.Q.Keyed.key c.args.sought.now))
     × Adds c.args.work.now.events later
-    (LookupCost g.K.Kind.key_of h (strings_of c.args.list.now) c.args.self.now.places
+    (LookupCost g.K.StringKind.key_of h (strings_of c.args.list.now) c.args.self.now.places
     (g.Q.Keyed.key c.args.sought.now))
 met g c later is h by =
     let strings = strings_of c.args.list.now in
-    let keys = map g.K.Kind.key_of strings in
+    let keys = map g.K.StringKind.key_of strings in
     let k = g.Q.Keyed.key c.args.sought.now in
     let at = c.loop-found.invariant in
     let turn = next_in g c in
-    let seen = compared-as g.K.Kind.key_of strings c.in-Some.found.0 k true _ later turn.3 is in
+    let seen = compared-as g.K.StringKind.key_of strings c.in-Some.found.0 k true _ later turn.3 is in
     let equal = equal-hashes h keys k c.args.list.now.list c.args.hash at.0 (by.stored
-    ∙ sym (map-map h g.K.Kind.key_of strings)) by.sought at.2 in
+    ∙ sym (map-map h g.K.StringKind.key_of strings)) by.sought at.2 in
     finds h keys k c.requires.distinct at.0 equal 0 c.args.self.now.places
     (none_passed h keys k c.requires.distinct at.0 equal c.args.self.now.places) c.in-Some.found.0 turn.0 _
     _ _ turn.2 (seen.1 refl) seen.0
 
 -- none is left
 ended : (g : Over) (c : In_default g) (h : Key → ℕ) →
-    AreHashed g.K.Kind.key_of h (strings_of c.args.list.now) (hashes_of c.args.list.now)
+    AreHashed g.K.StringKind.key_of h (strings_of c.args.list.now) (hashes_of c.args.list.now)
     (g.Q.Keyed.key c.args.sought.now) c.args.hash
-    → (None ≡ first g.K.Kind.key_of (strings_of c.args.list.now) (g.Q.Keyed.key c.args.sought.now))
+    → (None ≡ first g.K.StringKind.key_of (strings_of c.args.list.now) (g.Q.Keyed.key c.args.sought.now))
     × Adds c.args.work.now.events c.loop-found.work.events
-    (LookupCost g.K.Kind.key_of h (strings_of c.args.list.now) c.args.self.now.places
+    (LookupCost g.K.StringKind.key_of h (strings_of c.args.list.now) c.args.self.now.places
     (g.Q.Keyed.key c.args.sought.now))
 ended g c h by =
     let strings = strings_of c.args.list.now in
-    let keys = map g.K.Kind.key_of strings in
+    let keys = map g.K.StringKind.key_of strings in
     let k = g.Q.Keyed.key c.args.sought.now in
     let at = c.loop-found.invariant in
     let none = c.in_default.ensures.gives c.args.list.now.list c.args.hash at.1 at.3 in
     let equal = equal-hashes h keys k c.args.list.now.list c.args.hash at.0 (by.stored
-    ∙ sym (map-map h g.K.Kind.key_of strings)) by.sought at.2 in
+    ∙ sym (map-map h g.K.StringKind.key_of strings)) by.sought at.2 in
     ends h keys k c.requires.distinct at.0 equal 0 c.args.self.now.places
     (none_passed h keys k c.requires.distinct at.0 equal c.args.self.now.places) _ _ (rw none.0 at at.4)
 
@@ -104,7 +104,7 @@ loop-found-preserved g c =
     let at = c.loop-found.invariant in
     let turn = next_in g (goal.at.loop-found-preserved g c).In-Some in
     let seen =
-    compared-as g.K.Kind.key_of (strings_of c.args.list.now) c.in-Some.found.0
+    compared-as g.K.StringKind.key_of (strings_of c.args.list.now) c.in-Some.found.0
     (g.Q.Keyed.key c.args.sought.now) _ _ _ turn.3 c.if-same_at.ensures in (
       at.0,
       turn.0,

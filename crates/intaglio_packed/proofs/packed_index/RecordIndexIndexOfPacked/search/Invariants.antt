@@ -9,7 +9,7 @@ abbrev pub invariant-loop-found : goal.invariant-loop-found
 invariant-loop-found g l =
     (numbers : List ℕ) × (left : List ℕ) × AreAll l.list.list l.hash numbers
     × IsLeft l.list.list l.hash l.matches left
-    × IsSearching (map g.K.Kind.key_of (strings_of l.list)) (g.Q.Keyed.key l.sought) 0 numbers left
+    × IsSearching (map g.K.StringKind.key_of (strings_of l.list)) (g.Q.Keyed.key l.sought) 0 numbers left
     l.fn.work.events l.work.events
 
 abbrev pub decreases-loop-found : goal.decreases-loop-found

@@ -10,7 +10,7 @@ invariant_of-self g c =
     rw (
       c.truncate.ensures.list,
       cut,
-    ) (All-take g.K.Kind.is_spelling c.args.n (strings_of c.self.inside.records) c.self.invariant)
+    ) (All-take g.K.StringKind.is_spelling c.args.n (strings_of c.self.inside.records) c.self.invariant)
 
 pub returns-clause-contents : goal.returns-clause-contents
 returns-clause-contents g c =
