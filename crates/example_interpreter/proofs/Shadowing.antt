@@ -14,64 +14,64 @@ use Rattle.intaglio.proofs.CallerLaws.{has_content, keeps_text, spelled_at}
 use Rattle.example_interpreter.specs.Names.{name_of, IsLast}
 
 -- what is found by a name has this name
-pub name_found : (s : State StrContent) (w : List ℕ) (n : ℕ) → IsValid str_key s →
+pub name-found : (s : State StrContent) (w : List ℕ) (n : ℕ) → IsValid str_key s →
     IsFound str_key s (w ∷ []) n → name_of s n ≡ w
-name_found s w n valid found = grind (arith, common_steps, spelled_at)
+name-found s w n valid found = grind (arith, common_steps, spelled_at)
 
 -- and what has it is found by it
-found_by : (s : State StrContent) (n : ℕ) → IsValid str_key s → n < length s.contents →
+found-by : (s : State StrContent) (n : ℕ) → IsValid str_key s → n < length s.contents →
     IsFound str_key s (name_of s n ∷ []) n
-found_by s n valid below =
+found-by s n valid below =
     let held = has_content str_key s n below in
     (spelled_at str_key str_content_bytes (λ c. refl) s (name_of s n) n valid).0 (rw held.1 refl)
 
 -- declarations keep their names
-pub names_kept : (old new : State StrContent) (symbols : List ℕ) → Keeps str_key old new →
+pub names-kept : (old new : State StrContent) (symbols : List ℕ) → Keeps str_key old new →
     All (λ n. n < length old.contents) symbols → map (name_of new) symbols ≡ map (name_of old) symbols
-names_kept old new [] kept issued = refl
-names_kept old new (n ∷ ns) kept issued =
+names-kept old new [] kept issued = refl
+names-kept old new (n ∷ ns) kept issued =
     let same = keeps_text str_key str_content_bytes old new n kept (issued 0 n (omega arith)) in
-    rw (same, names_kept old new ns kept (λ i d lt. issued (suc i) d (omega arith))) refl
+    rw (same, names-kept old new ns kept (λ i d lt. issued (suc i) d (omega arith))) refl
 
 -- with one more symbol there is one more name
-pub declared_name : (old new : State StrContent) (symbols after : List ℕ) (n : ℕ) (w : List ℕ) →
+pub declared-name : (old new : State StrContent) (symbols after : List ℕ) (n : ℕ) (w : List ℕ) →
     Keeps str_key old new → All (λ n. n < length old.contents) symbols → after ≡ symbols ++ n ∷ []
     → IsValid str_key new → IsFound str_key new (w ∷ []) n →
     map (name_of new) after ≡ map (name_of old) symbols ++ w ∷ []
-declared_name old new symbols after n w kept issued added valid found = grind (arith, common_steps, map-append, names_kept, name_found)
+declared-name old new symbols after n w kept issued added valid found = grind (arith, common_steps, map-append, names-kept, name-found)
 
 module _ (s : State StrContent) (symbols : List ℕ) (w : List ℕ) (valid : IsValid str_key s)
     (issued : All (λ n. n < length s.contents) symbols) where
-  from_some : (o : Option ℕ) → option_map (name_of s) o ≡ Some w → (n : ℕ) × (o ≡ Some n) × (name_of s n ≡ w)
-  from_some None e = cc
-  from_some (Some n) e = (n, refl, same_Some (name_of s n) w e)
+  from-some : (o : Option ℕ) → option_map (name_of s) o ≡ Some w → (n : ℕ) × (o ≡ Some n) × (name_of s n ≡ w)
+  from-some None e = cc
+  from-some (Some n) e = (n, refl, same_Some (name_of s n) w e)
 
   -- a declaration of the name has the symbol that the name is found at
-  declared_at : (j : ℕ) → slice_get (map (name_of s) symbols) j ≡ Some w →
+  declared-at : (j : ℕ) → slice_get (map (name_of s) symbols) j ≡ Some w →
       (n : ℕ) × (slice_get symbols j ≡ Some n) × IsFound str_key s (w ∷ []) n
-  declared_at j e =
-      let at = from_some (slice_get symbols j) (sym (slice_get-map (name_of s) symbols j) ∙ e) in
+  declared-at j e =
+      let at = from-some (slice_get symbols j) (sym (slice_get-map (name_of s) symbols j) ∙ e) in
       let below : get_or symbols j 0 < length s.contents =
       issued j 0 (slice_get_within symbols j at.0 at.1) in (
         at.0,
         at.1,
-        rw at.2 at (found_by s at.0 valid (rw (get_or_from_slice_get symbols j at.0 0 at.1) at below)),
+        rw at.2 at (found-by s at.0 valid (rw (get_or_from_slice_get symbols j at.0 0 at.1) at below)),
       )
 
   -- so the last declaration of the symbol is that of the name
-  pub last_name : (n : ℕ) (r : Option ℕ) → IsFound str_key s (w ∷ []) n → IsLast symbols n r →
+  pub last-name : (n : ℕ) (r : Option ℕ) → IsFound str_key s (w ∷ []) n → IsLast symbols n r →
       IsLast (map (name_of s) symbols) w r
-  last_name n None found last = λ j e. let at = declared_at j e in
+  last-name n None found last = λ j e. let at = declared-at j e in
       last j (at.1 ∙ ap Some (same_Some at.0 n (sym at.2 ∙ found)))
-  last_name n (Some i) found last = (
+  last-name n (Some i) found last = (
     slice_get-map (name_of s) symbols i ∙ ap (option_map (name_of s)) last.0
-        ∙ ap Some (name_found s w n valid found),
-    λ j lt e. let at = declared_at j e in last.1 j lt (at.1 ∙ ap Some (same_Some at.0 n (sym at.2 ∙ found))),
+        ∙ ap Some (name-found s w n valid found),
+    λ j lt e. let at = declared-at j e in last.1 j lt (at.1 ∙ ap Some (same_Some at.0 n (sym at.2 ∙ found))),
   )
 
   -- and a name that isn't found isn't declared
   pub undeclared : first str_key s.contents (w ∷ []) ≡ None → IsLast (map (name_of s) symbols) w None
-  undeclared none = λ j e. let at = declared_at j e in
+  undeclared none = λ j e. let at = declared-at j e in
       let found : first str_key s.contents (w ∷ []) ≡ Some at.0 = at.2 in cc
 
 -- there is one last position
