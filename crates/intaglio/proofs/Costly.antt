@@ -81,8 +81,8 @@ searches-are-cheap hash k bucket = record {
 
 module _ {C : Type 0} (key : C → Key) (hash : Key → ℕ) (old : State C) (k : Key) (new : State C) where
   -- an interning that adds a content hashes once and places one symbol, and all others again if buckets grew
-  pub internings_are_cheap : InterningsAreCheap key hash old k new
-  internings_are_cheap = record {
+  pub internings-are-cheap : InterningsAreCheap key hash old k new
+  internings-are-cheap = record {
     no_second_hashing =
         λ x y a b c is.
         absurd (omega (

@@ -14,16 +14,16 @@ fresh ks k more apart = first-none ks k (λ j lt same.
 
 module _ {C : Type 0} (key : C → Key) where
   -- contents that are distinct and new are stored behind the others in their order, and numbered on
-  pub numbered_from : (held cs : List C) → AreDistinct (map key (held ++ cs))
+  pub numbered-from : (held cs : List C) → AreDistinct (map key (held ++ cs))
       → (interned_all key held cs ≡ held ++ cs)
       × (issue_from key held cs ≡ numbers_from (length held) (length cs))
-  numbered_from held [] apart = (sym (append-nil held), sym (numbers_from-none (length held) 0 refl))
-  numbered_from held (c ∷ cs) apart =
+  numbered-from held [] apart = (sym (append-nil held), sym (numbers_from-none (length held) 0 refl))
+  numbered-from held (c ∷ cs) apart =
       let none : first key held (key c) ≡ None =
       fresh (map key held) (key c) (map key cs) (rw (← map-append key held (c ∷ cs)) apart) in
       let next : interned key held c ≡ held ++ c ∷ [] = rw none refl in
       let symbol : issued key held c ≡ length held = rw none refl in
-      let rest = numbered_from (held ++ c ∷ []) cs (rw (append_assoc held (c ∷ []) cs) apart) in
+      let rest = numbered-from (held ++ c ∷ []) cs (rw (append_assoc held (c ∷ []) cs) apart) in
       let less : length (c ∷ cs) - 1 ≡ length cs = omega arith in
       let size : length (held ++ c ∷ []) ≡ length held + 1 = length-append held (c ∷ []) in (
         ap (λ (h : List C). interned_all key h cs) next ∙ rest.0 ∙ append_assoc held (c ∷ []) cs,
@@ -34,4 +34,4 @@ module _ {C : Type 0} (key : C → Key) where
   -- distinct contents are stored in their order, and each is given the number of its place
   pub numbered : (cs : List C) → AreDistinct (map key cs) → (interned_all key [] cs ≡ cs)
       × (issue_from key [] cs ≡ numbers_from 0 (length cs))
-  numbered cs apart = numbered_from [] cs apart
+  numbered cs apart = numbered-from [] cs apart
