@@ -8,33 +8,33 @@ use Rattle.intaglio_columns.proofs.JoinedMaps.{joined-length, joined-rows}
 module _ (old new : List (List ℕ)) (text : Option (List ℕ)) (numbers : List ℕ) (n : ℕ)
     (is : IsMap old new numbers) (few : length new ≤ missing) (long : length numbers ≡ n)
     (small : n < 2 ^ 32) where
-  as_long : length old ≡ n
-  as_long = sym (length-map old (λ (w : List ℕ). Some w)) ∙ sym (ap length is)
+  as-long : length old ≡ n
+  as-long = sym (length-map old (λ (w : List ℕ). Some w)) ∙ sym (ap length is)
       ∙ length-map numbers (λ (c : ℕ). slice_get new c) ∙ long
 
   -- the string of a symbol, which isn't the missing code
-  of_symbol : (strings : List (List ℕ)) (code : ℕ) (w : List ℕ) → length strings ≤ missing →
+  of-symbol : (strings : List (List ℕ)) (code : ℕ) (w : List ℕ) → length strings ≤ missing →
       slice_get strings code ≡ Some w → string_at strings text code ≡ w
-  of_symbol strings code w most at =
+  of-symbol strings code w most at =
       let other : code ≢ missing = λ e. omega (arith, e, most, slice_get_within strings code w at) in
       rw (ne_eqb code missing other) (get_or_from_slice_get strings code w [] at)
 
-  of_missing : (strings : List (List ℕ)) (code : ℕ) → code ≡ missing →
+  of-missing : (strings : List (List ℕ)) (code : ℕ) → code ≡ missing →
       string_at strings text code ≡ unwrap_or text []
-  of_missing strings code e = rw (eq-eqb code missing e) refl
+  of-missing strings code e = rw (eq-eqb code missing e) refl
 
-  same_line : (c : ℕ) → IsCode n c → string_at new text (get_or numbers c missing) ≡ string_at old text c
-  same_line c known = elim known [
+  same-line : (c : ℕ) → IsCode n c → string_at new text (get_or numbers c missing) ≡ string_at old text c
+  same-line c known = elim known [
     | inl l ↦
         let w = get_or old c [] in
-        let here : slice_get old c ≡ Some w = slice_get-get_or old c [] (omega (arith, l, as_long)) in
+        let here : slice_get old c ≡ Some w = slice_get-get_or old c [] (omega (arith, l, as-long)) in
         let there = same-string new few old numbers c is ∙ here in
-        of_symbol new (get_or numbers c missing) w few there
-        ∙ sym (of_symbol old c w (omega (arith, as_long, small)) here)
+        of-symbol new (get_or numbers c missing) w few there
+        ∙ sym (of-symbol old c w (omega (arith, as-long, small)) here)
     | inr e ↦
         let past : get_or numbers c missing ≡ missing =
         get_or_past numbers c missing (omega (arith, e, long, small)) in
-        of_missing new (get_or numbers c missing) past ∙ sym (of_missing old c e)
+        of-missing new (get_or numbers c missing) past ∙ sym (of-missing old c e)
   ]
 
   -- codes that are renumbered by such a map keep their lines
@@ -42,7 +42,7 @@ module _ (old new : List (List ℕ)) (text : Option (List ℕ)) (numbers : List 
       ≡ flat_map (code_line old text) cs
   kept [] known = refl
   kept (c ∷ cs) known =
-      rw (same_line c (known 0 c refl), kept cs (λ row code at. known (suc row) code at)) refl
+      rw (same-line c (known 0 c refl), kept cs (λ row code at. known (suc row) code at)) refl
 
 -- map i leads from where it has to, and as the first one
 abbrev pub LeadsRight : List ℕ → List (List ℕ) → ℕ → Type 0

@@ -27,8 +27,8 @@ module _ {n : ℕ} {cs : List ℕ} {i : ℕ} {counts : List ℕ} {gone c : ℕ} 
       (ne_eqb (get_or cs i 0) s (λ h. e (sym is ∙ h)))
 
   -- one more code, which is the missing one
-  pub tally_missing : c ≡ missing → n ≤ missing → IsTally n cs (i + 1) counts (gone + 1)
-  tally_missing e small = record {
+  pub tally-missing : c ≡ missing → n ≤ missing → IsTally n cs (i + 1) counts (gone + 1)
+  tally-missing e small = record {
     strings = before.strings;
     each = λ s l. let other : c ≢ s = omega (arith, e, small, l) in before.each s l ∙ sym (no s other);
     missing = ap (λ x. x + 1) before.missing ∙ sym (yes missing e);
@@ -38,8 +38,8 @@ module _ {n : ℕ} {cs : List ℕ} {i : ℕ} {counts : List ℕ} {gone c : ℕ} 
   }
 
   -- or that of a string, whose count grows by one
-  pub tally_string : c < n → c ≢ missing → IsTally n cs (i + 1) (set counts c (get_or counts c 0 + 1)) gone
-  tally_string l ne =
+  pub tally-string : c < n → c ≢ missing → IsTally n cs (i + 1) (set counts c (get_or counts c 0 + 1)) gone
+  tally-string l ne =
       let below : c < length counts = omega (arith, l, before.strings) in
       let more = get_or counts c 0 + 1 in
       let same : (s : ℕ) → s ≡ c → get_or (set counts c more) s 0 ≡ more =
@@ -62,8 +62,8 @@ module _ {n : ℕ} {cs : List ℕ} {i : ℕ} {counts : List ℕ} {gone c : ℕ} 
       }
 
   -- or past the strings, where it isn't counted
-  pub tally_other : n ≤ c → c ≢ missing → IsTally n cs (i + 1) counts gone
-  tally_other l ne = record {
+  pub tally-other : n ≤ c → c ≢ missing → IsTally n cs (i + 1) counts gone
+  tally-other l ne = record {
     strings = before.strings;
     each = λ s m. let other : c ≢ s = omega (arith, l, m) in before.each s m ∙ sym (no s other);
     missing = before.missing ∙ sym (no missing ne);

@@ -1,10 +1,10 @@
 -- Maps in columns, as one map.
 use Rattle.std.proofs.Common.{◌≡◌, ◌≢◌, ◌∙◌, ◌==◌, sym, ap, refl, ℕ, zero, suc, ◌+◌, ◌<◌, ◌≤◌, true, false, List, [], ◌∷◌, ◌++◌, get_or, length, map, take, Some, inl, inr, append_assoc, length-append, arith, eq-eqb}
 use Rattle.intaglio_columns.proofs.Names.{slice_get, All, length-map, map-append, true≢false, get_or_from_slice_get, slice_get-get_or, slice_get_within, AreWithin, joined, joined_map, sum_of, map-push, rows, strings, rows_from, missing, IsMapColumn, joined_codes}
-use Rattle.intaglio_columns.proofs.CodesInFile.{all_length}
+use Rattle.intaglio_columns.proofs.CodesInFile.{all-length}
 use Rattle.intaglio_columns.specs.Layout.{codes}
 use Rattle.intaglio_columns.proofs.Listed.{next}
-use Rattle.intaglio_columns.proofs.Unknown.{none_pass}
+use Rattle.intaglio_columns.proofs.Unknown.{none-pass}
 
 -- one number more was added
 pub added-next : (ns : List ℕ) (i n : ℕ) → slice_get ns i ≡ Some n → (start : ℕ)
@@ -19,7 +19,7 @@ added-next ns i n at start before held items is more =
 none-missing : (cs : List ℕ) → rows_from (λ c. c == missing) 0 cs ≡ [] → (i code : ℕ) →
     slice_get cs i ≡ Some code → code ≢ missing
 none-missing cs none i code at same =
-    let other = none_pass (λ c. c == missing) cs none i (slice_get_within cs i code at) in
+    let other = none-pass (λ c. c == missing) cs none i (slice_get_within cs i code at) in
     let is = get_or_from_slice_get cs i code 0 at in
     true≢false (sym (eq-eqb (get_or cs i 0) missing (is ∙ same)) ∙ other)
 
@@ -87,7 +87,7 @@ joined-rows n (m ∷ maps) =
       arith,
       length-append (map (λ k. n + k) (codes m)) rest,
       length-map (codes m) (λ k. n + k),
-      all_length m,
+      all-length m,
       joined-rows (n + strings m) maps,
     )
 

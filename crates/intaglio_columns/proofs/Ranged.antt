@@ -1,18 +1,18 @@
 -- Lines that are added to others, and lines of selected rows.
 use Rattle.intaglio_columns.proofs.Names.{common_steps, flat_map, Appends, append-nil, flat_map-append, cases_lt, get_or_from_slice_get, slice_get-get_or, IsFirstRow, rows_from, rows_past, number_line, Appends-append, AreRangesBefore, IsRangeFault, IsRowsFault, Appends-nil}
 use Rattle.std.proofs.Common.{◌≡◌, ◌∙◌, ℕ, ◌+◌, ◌<◌, Bool, List, [], ◌∷◌, ◌++◌, length, take, get_or, slice_get, Option, Some, refl, ap, append_assoc, arith}
-use Rattle.intaglio_columns.proofs.Past.{more_rows_of}
+use Rattle.intaglio_columns.proofs.Past.{more-rows-of}
 use Rattle.intaglio_columns.specs.declared.rows.RowRange.{RowRange}
 use Rattle.intaglio_columns.specs.declared.error.RowsError.{RowsError}
 use Rattle.intaglio_columns.specs.declared.error.RowsError.TheVariants.{NoRow, NoLine, Stream}
 use Rattle.intaglio_columns.proofs.Listed.{flat_map-next}
 
 -- one more line of the items of a list, behind those before it
-pub after_next : {X Y : Type 0} (xs : List X) (n : ℕ) (x : X) → slice_get xs n ≡ Some x →
+pub after-next : {X Y : Type 0} (xs : List X) (n : ℕ) (x : X) → slice_get xs n ≡ Some x →
     (h : Y → List ℕ) (ys zs : List Y) (y : Y) (f : X → List ℕ)
     → flat_map h ys ≡ flat_map h zs ++ flat_map f (take n xs) → h y ≡ f x →
     flat_map h (ys ++ y ∷ []) ≡ flat_map h zs ++ flat_map f (take (n + 1) xs)
-after_next xs n x at h ys zs y f before same = grind (arith, common_steps, flat_map-append, append-nil, append_assoc, flat_map-next)
+after-next xs n x at h ys zs y f before same = grind (arith, common_steps, flat_map-append, append-nil, append_assoc, flat_map-next)
 
 -- the numbers of the rows before this one that pass were put
 pub record HavePut (p : ℕ → Bool) (cs : List ℕ) (from : ℕ) (old new : Option (List ℕ)) : Type 0 where
@@ -22,18 +22,18 @@ pub record HavePut (p : ℕ → Bool) (cs : List ℕ) (from : ℕ) (old new : Op
 
 module _ {p : ℕ → Bool} {cs : List ℕ} {old : Option (List ℕ)} where
   -- before the first row, nothing was put
-  pub none_put : HavePut p cs 0 old old
-  none_put = record { done = []; parts = refl; put = Appends-nil old }
+  pub none-put : HavePut p cs 0 old old
+  none-put = record { done = []; parts = refl; put = Appends-nil old }
 
   -- the next row that passes is put
-  pub row_put : {from row : ℕ} {mid : Option (List ℕ)} (new : Option (List ℕ)) → HavePut p cs from old mid →
+  pub row-put : {from row : ℕ} {mid : Option (List ℕ)} (new : Option (List ℕ)) → HavePut p cs from old mid →
       IsFirstRow p from cs row → Appends mid new (number_line row) → HavePut p cs (row + 1) old new
-  row_put {from} {row} {mid} new before is more =
+  row-put {from} {row} {mid} new before is more =
       let lines = flat_map-append number_line before.done (row ∷ [])
       ∙ ap (λ t. flat_map number_line before.done ++ t) (append-nil (number_line row)) in
       record {
         done = before.done ++ row ∷ [];
-        parts = more_rows_of p cs before.done (rows_from p 0 cs) from row before.parts is;
+        parts = more-rows-of p cs before.done (rows_from p 0 cs) from row before.parts is;
         put = rw lines (Appends-append old mid new _ _ before.put more);
       }
 

@@ -4,25 +4,25 @@ use Rattle.intaglio_columns.proofs.Names.{take_at_read, append-nil, map-append, 
 use Rattle.intaglio_columns.proofs.counting.ranks.Goals as goal
 
 -- putting a number in front of a list, or not, comes to the same before and after an append
-cond_append : (b : Bool) (k : ℕ) (xs ys : List ℕ) →
+cond-append : (b : Bool) (k : ℕ) (xs ys : List ℕ) →
     cond b (k ∷ (xs ++ ys)) (xs ++ ys) ≡ cond b (k ∷ xs) xs ++ ys
-cond_append true k xs ys = refl
-cond_append false k xs ys = refl
+cond-append true k xs ys = refl
+cond-append false k xs ys = refl
 
 -- with one code more, the rows whose codes pass are those before, and the last row if its code passes
-rows_more : (p : ℕ → Bool) (k : ℕ) (xs : List ℕ) (c : ℕ) →
+rows-more : (p : ℕ → Bool) (k : ℕ) (xs : List ℕ) (c : ℕ) →
     rows_from p k (xs ++ c ∷ []) ≡ rows_from p k xs ++ cond (p c) ((k + length xs) ∷ []) []
-rows_more p k [] c = ap (λ m. cond (p c) (m ∷ []) []) (omega arith)
-rows_more p k (x ∷ xs) c =
+rows-more p k [] c = ap (λ m. cond (p c) (m ∷ []) []) (omega arith)
+rows-more p k (x ∷ xs) c =
     let place : k + 1 + length xs ≡ k + suc (length xs) = omega arith in
-    rw (rows_more p (k + 1) xs c, place)
-    (cond_append (p x) k (rows_from p (k + 1) xs) (cond (p c) ((k + suc (length xs)) ∷ []) []))
+    rw (rows-more p (k + 1) xs c, place)
+    (cond-append (p x) k (rows_from p (k + 1) xs) (cond (p c) ((k + suc (length xs)) ∷ []) []))
 
 module _ (p : ℕ → Bool) (cs : List ℕ) (i : ℕ) (l : i < length cs) where
   step : rows_from p 0 (take (i + 1) cs) ≡ rows_from p 0 (take i cs) ++ cond (p (get_or cs i 0)) (i ∷ []) []
   step =
       let place : 0 + length (take i cs) ≡ i = omega (arith, length-take-le i cs (omega (arith, l))) in
-      rw ((take_at_read cs i 0 l).1, rows_more p 0 (take i cs) (get_or cs i 0), place) refl
+      rw ((take_at_read cs i 0 l).1, rows-more p 0 (take i cs) (get_or cs i 0), place) refl
 
   selected : {X : Type 0} (f : ℕ → X) → p (get_or cs i 0) ≡ true →
       map f (rows_from p 0 (take (i + 1) cs)) ≡ map f (rows_from p 0 (take i cs)) ++ f i ∷ []

@@ -5,8 +5,8 @@ use Rattle.intaglio_columns.proofs.matching.mark_all.Goals as goal
 use Rattle.intaglio_columns.proofs.matching.mark_all.Goals.{in-Some, in_default}
 
 -- the same symbol was found
-same_symbol : (a b : ℕ) → Some a ≡ Some b → a ≡ b
-same_symbol a b e = cc
+same-symbol : (a b : ℕ) → Some a ≡ Some b → a ≡ b
+same-symbol a b e = cc
 
 module _ {n : ℕ} {strings : List (List ℕ)} {IsWhole : Type 0} where
   module _ {words : List (List ℕ)} {marks : List Bool} (w : List ℕ)
@@ -17,10 +17,10 @@ module _ {n : ℕ} {strings : List (List ℕ)} {IsWhole : Type 0} where
         (it.0, Contains-append_left words (w ∷ []) it.0 it.1, it.2)
 
     -- a word that isn't found, or whose symbol has no place
-    marked_absent : (found : Option ℕ) → (IsWhole → found ≡ position_in strings w) →
+    marked-absent : (found : Option ℕ) → (IsWhole → found ≡ position_in strings w) →
         ((symbol : ℕ) → found ≡ Some symbol → n ≤ symbol)
         → AreMarked n strings IsWhole (words ++ w ∷ []) marks
-    marked_absent found is large = record {
+    marked-absent found is large = record {
       long = before.long;
       sound = kept;
       whole = λ holds symbol word among at small. elim (Contains-push_cases words w word among) [
@@ -31,10 +31,10 @@ module _ {n : ℕ} {strings : List (List ℕ)} {IsWhole : Type 0} where
     }
 
     -- a word that is found
-    marked_found : (s : ℕ) → s < n → slice_get strings s ≡ Some w →
+    marked-found : (s : ℕ) → s < n → slice_get strings s ≡ Some w →
         (IsWhole → Some s ≡ position_in strings w)
         → AreMarked n strings IsWhole (words ++ w ∷ []) (set marks s true)
-    marked_found s small at is =
+    marked-found s small at is =
         let there : s < length marks = omega (arith, small, before.long) in
         let other : (symbol : ℕ) → (symbol ≡ s → ⊥) →
         get_or (set marks s true) symbol false ≡ get_or marks symbol false =
@@ -51,7 +51,7 @@ module _ {n : ℕ} {strings : List (List ℕ)} {IsWhole : Type 0} where
               | inl earlier ↦ before.whole holds symbol word earlier position below
               | inr same ↦
                   absurd (ne
-                  (sym (same_symbol s symbol (is holds ∙ ap (position_in strings) same ∙ position))))
+                  (sym (same-symbol s symbol (is holds ∙ ap (position_in strings) same ∙ position))))
             ]
           ];
         }
@@ -72,16 +72,16 @@ loop-string-preserved g c =
     elim c.match-found.branch [
       | in-Some w ↦ let s = w.in-Some.symbol in elim (cases_lt w.id.result (length marks)) [
         | inl small ↦ rw (more, w.marks-is, w.mark.ensures.there small, w.id.ensures)
-            (marked_found word before s
+            (marked-found word before s
             (omega (arith, small, before.long, w.id.ensures))
             (rw w.in-Some.is at c.symbol-found.ensures.found)
             (λ holds. sym w.in-Some.is ∙ c.symbol-found.ensures.whole holds))
         | inr large ↦ rw (more, w.marks-is, w.mark.ensures.none large)
-            (marked_absent word before (Some s) (λ holds. sym w.in-Some.is
+            (marked-absent word before (Some s) (λ holds. sym w.in-Some.is
             ∙ c.symbol-found.ensures.whole holds)
-            (λ t e. omega (arith, same_symbol s t e, large, before.long, w.id.ensures)))
+            (λ t e. omega (arith, same-symbol s t e, large, before.long, w.id.ensures)))
       ]
       | in_default w ↦ rw (more, w.marks-is)
-          (marked_absent word before c.symbol-found.result
+          (marked-absent word before c.symbol-found.result
           c.symbol-found.ensures.whole (λ t e. absurd (w.in_default.not-Some t e)))
     ]

@@ -2,8 +2,8 @@
 use Rattle.std.proofs.Common.{◌≡◌, ◌∙◌, ◌+◌, ◌-◌, ◌++◌, drop, slice_get, ap, sym, arith}
 use Rattle.intaglio_columns.proofs.Names.{option_map, spelling_line, code_line}
 use Rattle.intaglio_columns.specs.Layout.{codes}
-use Rattle.intaglio_columns.proofs.Overlaid.{read_behind}
-use Rattle.intaglio_columns.proofs.Ranged.{after_next}
+use Rattle.intaglio_columns.proofs.Overlaid.{read-behind}
+use Rattle.intaglio_columns.proofs.Ranged.{after-next}
 use Rattle.intaglio_columns.proofs.rows.add_lines.Goals as goal
 
 pub loop-row-preserved : goal.loop-row-preserved
@@ -15,11 +15,11 @@ loop-row-preserved g c =
     let code = c.unwrap-code.result in
     let place : first + (row - first) ≡ row = omega (arith, c.loop-row.auto.row) in
     let next : row + 1 - first ≡ row - first + 1 = omega (arith, c.loop-row.auto.row) in
-    let at = read_behind cs first (row - first) code (ap (slice_get cs) place ∙ sym c.code.ensures
+    let at = read-behind cs first (row - first) code (ap (slice_get cs) place ∙ sym c.code.ensures
     ∙ c.unwrap-code.ensures) in
     record {
       lines = rw (c.in-Ok.ensures.items, next)
-          (after_next (drop first cs) (row - first) code at (λ string. spelling_line string.now)
+          (after-next (drop first cs) (row - first) code at (λ string. spelling_line string.now)
           c.loop-row.lines.items c.args.lines.now.items c.in-Some.line
           line c.loop-row.invariant.lines (ap spelling_line c.in-Some.ensures.line));
       within = omega (arith, c.loop-row-test.true, c.loop-row.auto.row);

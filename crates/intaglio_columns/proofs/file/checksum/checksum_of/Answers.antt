@@ -3,7 +3,7 @@
 use Rattle.std.proofs.Common.{◌∙◌, arith, ap, drop, sym}
 use Rattle.intaglio_columns.proofs.Names.{finish, length-take-le, take_rest}
 use Rattle.std.specs.Hash.DefaultHasher.{write}
-use Rattle.intaglio_columns.proofs.Checksums.{of_parts}
+use Rattle.intaglio_columns.proofs.Checksums.{of-parts}
 use Rattle.intaglio_columns.proofs.file.checksum.checksum_of.Goals as goal
 
 pub slice_bounds-write-end-2 : goal.slice_bounds-write-end-2
@@ -15,7 +15,7 @@ returns-clause-sum c =
     let start = c.write.ensures ∙ ap (write c.with_keys-hasher.result) (take_rest bs 128)
     ∙ ap (λ t. write t (drop 128 bs)) c.with_keys-hasher.ensures in
     c.finish.ensures
-    ∙ ap finish (of_parts _ _ _ _ _ _ _ _ _ start c.write-2.ensures c.write-3.ensures c.write-4.ensures)
+    ∙ ap finish (of-parts _ _ _ _ _ _ _ _ _ start c.write-2.ensures c.write-3.ensures c.write-4.ensures)
 
 pub returns-clause-small : goal.returns-clause-small
 returns-clause-small c = rw (returns-clause-sum c) at c.finish.type_inv

@@ -2,11 +2,11 @@
 -- or with the places, and `overlaid` drops what has no place.
 use Rattle.intaglio_columns.proofs.Names.{common_steps}
 use Rattle.std.proofs.Common.{◌∙◌, arith, length-drop}
-use Rattle.intaglio_columns.proofs.Overlaid.{overlaid_all, overlaid_next, read_behind}
+use Rattle.intaglio_columns.proofs.Overlaid.{overlaid-all, overlaid-next, read-behind}
 use Rattle.intaglio_columns.proofs.file.column.Column.copy_codes.Goals as goal
 
 pub loop-i-preserved : goal.loop-i-preserved
-loop-i-preserved g c = grind (arith, common_steps, read_behind, overlaid_next)
+loop-i-preserved g c = grind (arith, common_steps, read-behind, overlaid-next)
 
 pub returns-clause-codes : goal.returns-clause-codes
-returns-clause-codes g c = grind (arith, common_steps, length-drop, overlaid_all)
+returns-clause-codes g c = grind (arith, common_steps, length-drop, overlaid-all)

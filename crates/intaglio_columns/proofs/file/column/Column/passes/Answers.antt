@@ -1,6 +1,6 @@
 -- The row is there, so `get_or` reads its code and not the default.
 use Rattle.std.proofs.Common.{◌∙◌, ap}
-use Rattle.intaglio_columns.proofs.CodesInFile.{read_or}
+use Rattle.intaglio_columns.proofs.CodesInFile.{read-or}
 use Rattle.intaglio_columns.proofs.file.column.Column.passes.Goals as goal
 
 pub returns : goal.returns
@@ -10,4 +10,4 @@ returns g c =
     rw (← c.self.view_is)
     (c.passes_at.ensures
     ∙ ap (g.T.CodeTest.passes c.args.test.now)
-    (read_or c.self.inside.bytes.now g.C.Code.width c.args.row c.bytes.result width within c.bytes.ensures))
+    (read-or c.self.inside.bytes.now g.C.Code.width c.args.row c.bytes.result width within c.bytes.ensures))
