@@ -4,7 +4,7 @@ use Rattle.intaglio_decode.proofs.Names.{lines_of, key_of, encoded, flat_map-lin
 use Rattle.intaglio_lines.specs.declared.kind.Kind.{Kind}
 use Rattle.intaglio_lines.specs.declared.kind.Kind.TheVariants.{Path}
 use Rattle.intaglio_decode.proofs.FirstEqual.{decodes-first, decoded-keys, firsts, holds-encoded}
-use Rattle.intaglio_decode.proofs.InOrder.{issue-in_order, distinct-interned_all}
+use Rattle.intaglio_decode.proofs.InOrder.{issue-in-order, distinct-interned_all}
 
 pub faults_are_exact : FaultsAreExact
 faults_are_exact = faults-exact
@@ -39,7 +39,7 @@ encoding_is_in_order = λ kind input. (
   _,
   holds-encoded (key_of kind) input,
   record {
-    order = issue-in_order (key_of kind) [] (lines_of input);
+    order = issue-in-order (key_of kind) [] (lines_of input);
     distinct = distinct-interned_all (key_of kind) [] (lines_of input) (λ i j d below within. absurd (omega arith));
   },
 )

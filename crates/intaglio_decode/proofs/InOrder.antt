@@ -43,10 +43,10 @@ module _ (key : List ℕ → Key) (spellings : List (List ℕ)) (distinct : Dist
 
 module _ (key : List ℕ → Key) where
   -- the symbols of lines are issued in order
-  pub issue-in_order : (held cs : List (List ℕ)) →
+  pub issue-in-order : (held cs : List (List ℕ)) →
       AreInOrder (length held) (issue_from key held cs) (length (interned_all key held cs))
-  issue-in_order held [] = refl
-  issue-in_order held (c ∷ cs) = grind (arith, common_steps, length-append, some-below (map key held) (key c), length-map, issue-in_order (interned key held c) cs)
+  issue-in-order held [] = refl
+  issue-in-order held (c ∷ cs) = grind (arith, common_steps, length-append, some-below (map key held) (key c), length-map, issue-in-order (interned key held c) cs)
 
   -- and no two of the spellings that are held are equal
   pub distinct-interned_all : (held cs : List (List ℕ)) → Distinct key held →

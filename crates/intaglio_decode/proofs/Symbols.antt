@@ -15,10 +15,10 @@ symbol_lines-more bytes line after lines written =
     ap (before_first is_blank) lines ∙ rw (written, one-add) refl
 
 -- an error that reports the first fault of two
-pub reports_or : (e : RestoreError) (fault more : Option Fault) → Reports e fault →
+pub reports-or : (e : RestoreError) (fault more : Option Fault) → Reports e fault →
     Reports e (option_or fault more)
-reports_or (Stream failure) fault more is = tt
-reports_or _ fault more is = rw is refl
+reports-or (Stream failure) fault more is = tt
+reports-or _ fault more is = rw is refl
 
 -- if there is a byte, the test whether the last one is 10 says whether the bytes are ended
 pub is_ended_last : (bytes : List ℕ) → 1 ≤ length bytes →
