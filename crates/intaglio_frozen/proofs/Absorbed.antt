@@ -7,21 +7,21 @@ use Rattle.intaglio_interner.proofs.Room.{bytes-none, grows-none}
 pub ruleset none_grows = (bytes-none, grows-none)
 
 -- a string stands at its symbol
-issued_there : (held : List (List ℕ)) (w : List ℕ) →
+issued-there : (held : List (List ℕ)) (w : List ℕ) →
     slice_get (interned string_key held w) (issued string_key held w) ≡ Some w
-issued_there held w =
+issued-there held w =
     let h = mapped-some string_key _ (string_key w)
     (first-key string_key (interned string_key held w) (string_key w) (issued string_key held w) (issued-found string_key held w)) in
     let same : h.0 ≡ w = cc in
     h.1 ∙ ap Some same
 
 -- a map stays one while strings are interned
-pub map_still : (held more ws : List (List ℕ)) (numbers : List ℕ) → IsMap ws held numbers →
+pub map-still : (held more ws : List (List ℕ)) (numbers : List ℕ) → IsMap ws held numbers →
     IsMap ws (interned_all string_key held more) numbers
-map_still held more [] [] is = refl
-map_still held more (w ∷ ws) (n ∷ numbers) is =
-    rw (content-still string_key held more n w (cc), map_still held more ws numbers (cc)) refl
-map_still held more ws numbers is = cc
+map-still held more [] [] is = refl
+map-still held more (w ∷ ws) (n ∷ numbers) is =
+    rw (content-still string_key held more n w (cc), map-still held more ws numbers (cc)) refl
+map-still held more ws numbers is = cc
 
 -- the symbols that strings are given are their map
 pub issued-map : (held ws : List (List ℕ)) →
@@ -30,7 +30,7 @@ issued-map held [] = refl
 issued-map held (w ∷ ws) =
     let next = interned string_key held w in
     rw (
-      content-still string_key next ws (issued string_key held w) w (issued_there held w),
+      content-still string_key next ws (issued string_key held w) w (issued-there held w),
       issued-map next ws,
     ) refl
 
@@ -44,32 +44,32 @@ issued_map_by key same held ws new symbols given after =
     keys (issued-map held ws))
 
 -- maps stay maps while strings are interned
-pub maps_still : (held more : List (List ℕ)) (lists : List (List (List ℕ))) (maps : List (List ℕ)) →
+pub maps-still : (held more : List (List ℕ)) (lists : List (List (List ℕ))) (maps : List (List ℕ)) →
     AreMaps lists held maps → AreMaps lists (interned_all string_key held more) maps
-maps_still held more [] [] are = refl
-maps_still held more (ws ∷ lists) (m ∷ maps) are =
-    rw (map_still held more ws m (cc), maps_still held more lists maps (cc)) refl
-maps_still held more lists maps are = cc
+maps-still held more [] [] are = refl
+maps-still held more (ws ∷ lists) (m ∷ maps) are =
+    rw (map-still held more ws m (cc), maps-still held more lists maps (cc)) refl
+maps-still held more lists maps are = cc
 
 -- what is held after the lists so far and one more, and the maps
 module _ (lists : List (List (List ℕ))) (ws : List (List ℕ)) where
   -- the union with one more list is what is held after this list is interned into that of the others
-  pub union_next : union (lists ++ ws ∷ []) ≡ interned_all string_key (union lists) ws
-  union_next = grind (arith, common_steps, interned_all-append)
+  pub union-next : union (lists ++ ws ∷ []) ≡ interned_all string_key (union lists) ws
+  union-next = grind (arith, common_steps, interned_all-append)
 
   -- maps of the lists so far, and that of one more list, are maps to the union with it
-  pub maps_next : (maps : List (List ℕ)) (symbols : List ℕ) → AreMaps lists (union lists) maps →
+  pub maps-next : (maps : List (List ℕ)) (symbols : List ℕ) → AreMaps lists (union lists) maps →
       IsMap ws (union (lists ++ ws ∷ [])) symbols
       → AreMaps (lists ++ ws ∷ []) (union (lists ++ ws ∷ [])) (maps ++ symbols ∷ [])
-  maps_next maps symbols are is =
+  maps-next maps symbols are is =
       let before : AreMaps lists (union (lists ++ ws ∷ [])) maps =
-      rw union_next (maps_still (union lists) ws lists maps are) in
+      rw union-next (maps-still (union lists) ws lists maps are) in
       grind (arith, common_steps)
 
 -- what is more than the limit after the first lists is more than it after all
-pub union_over : (limit i : ℕ) (lists : List (List (List ℕ))) → limit < length (union (take i lists)) →
+pub union-over : (limit i : ℕ) (lists : List (List (List ℕ))) → limit < length (union (take i lists)) →
     limit < length (union lists)
-union_over limit i lists over =
+union-over limit i lists over =
     let all = λ (strings : List (List ℕ)). strings in
     let front = take i lists in
     let back = drop i lists in
@@ -81,9 +81,9 @@ union_over limit i lists over =
     omega (arith, over, longer, ap length same)
 
 -- what follows of an overflow
-pub if_overflow : {P Q : Type 0} (e : InternError) → (P → Q) → IfOverflow e P → IfOverflow e Q
-if_overflow (Overflow full) f p = f p
-if_overflow (Memory refused) f p = tt
+pub if-overflow : {P Q : Type 0} (e : InternError) → (P → Q) → IfOverflow e P → IfOverflow e Q
+if-overflow (Overflow full) f p = f p
+if-overflow (Memory refused) f p = tt
 
 -- what follows of a value and of what holds beside it
 pub ok_both : {V E Q : Type 0} (P R : V → Type 0) (r : Result V E) → IfOk r P → OnOk r Q →

@@ -4,31 +4,31 @@ use Rattle.intaglio_frozen.proofs.Names.{common_steps, first, interned, interned
 use Rattle.intaglio_frozen.specs.Shards.{shard_of}
 
 module _ (p : List ℕ → Bool) where
-  next_there : (same : Bool) (o q : Option ℕ) → is_some o ≡ is_some q
+  next-there : (same : Bool) (o q : Option ℕ) → is_some o ≡ is_some q
       → is_some (cond same (Some 0) (option_map (λ i. 1 + i) o))
       ≡ is_some (cond same (Some 0) (option_map (λ i. 1 + i) q))
-  next_there same o q e = grind (arith, common_steps)
+  next-there same o q e = grind (arith, common_steps)
 
-  there_behind : (o q : Option ℕ) → is_some o ≡ is_some q → is_some o ≡ is_some (option_map (λ i. 1 + i) q)
-  there_behind o q e = grind (arith, common_steps)
+  there-behind : (o q : Option ℕ) → is_some o ≡ is_some q → is_some o ≡ is_some (option_map (λ i. 1 + i) q)
+  there-behind o q e = grind (arith, common_steps)
 
   unequal : (v w : List ℕ) → p v ≡ false → p w ≡ true → string_key v ≢ string_key w
   unequal v w fails passes e = let equal : v ≡ w = cc in let other = ap p equal in cc
 
-  passed_there : (v w : List ℕ) (held : List (List ℕ)) → p w ≡ true
+  passed-there : (v w : List ℕ) (held : List (List ℕ)) → p w ≡ true
       → is_some (first string_key (filter p held) (string_key w))
       ≡ is_some (first string_key held (string_key w))
       → is_some (first string_key (filter p (v ∷ held)) (string_key w))
       ≡ is_some (first string_key (v ∷ held) (string_key w))
-  passed_there v w held passes same =
-      grind (arith, common_steps, unequal v w, key_eq-unequal (string_key v) (string_key w), next_there, there_behind)
+  passed-there v w held passes same =
+      grind (arith, common_steps, unequal v w, key_eq-unequal (string_key v) (string_key w), next-there, there-behind)
 
   -- a string that passes is there exactly if it is among those that pass
   there : (w : List ℕ) (held : List (List ℕ)) → p w ≡ true →
       is_some (first string_key (filter p held) (string_key w))
       ≡ is_some (first string_key held (string_key w))
   there w [] passes = refl
-  there w (v ∷ held) passes = passed_there v w held passes (there w held passes)
+  there w (v ∷ held) passes = passed-there v w held passes (there w held passes)
 
   -- what passes of what is interned
   kept : (w : List ℕ) (held : List (List ℕ)) (found : Bool)
@@ -38,23 +38,23 @@ module _ (p : List ℕ → Bool) where
   kept w held found there = grind (arith, common_steps)
 
   -- what passes of what is interned is what is interned of those that pass
-  pub filter_interned : (held ws : List (List ℕ)) →
+  pub filter-interned : (held ws : List (List ℕ)) →
       filter p (interned_all string_key held ws) ≡ interned_all string_key (filter p held) (filter p ws)
-  filter_interned held [] = refl
-  filter_interned held (w ∷ ws) =
+  filter-interned held [] = refl
+  filter-interned held (w ∷ ws) =
       let now = kept w held _ (there w held) in
-      grind (arith, common_steps, filter_interned (interned string_key held w) ws)
+      grind (arith, common_steps, filter-interned (interned string_key held w) ws)
 
   -- what passes of lists that are joined is what passes of each, joined
-  pub filter_joined : (lists : List (List (List ℕ))) →
+  pub filter-joined : (lists : List (List (List ℕ))) →
       filter p (flat_map (λ ws. ws) lists) ≡ flat_map (λ ws. ws) (map (filter p) lists)
-  filter_joined [] = refl
-  filter_joined (ws ∷ lists) = grind (arith, common_steps, filter_joined lists)
+  filter-joined [] = refl
+  filter-joined (ws ∷ lists) = grind (arith, common_steps, filter-joined lists)
 
   -- what passes of a union is the union of what passes of each list
   pub filter-union : (lists : List (List (List ℕ))) → filter p (union lists) ≡ union (map (filter p) lists)
-  filter-union lists = filter_interned [] (flat_map (λ ws. ws) lists)
-      ∙ ap (interned_all string_key []) (filter_joined lists)
+  filter-union lists = filter-interned [] (flat_map (λ ws. ws) lists)
+      ∙ ap (interned_all string_key []) (filter-joined lists)
 
 -- a shard of a union is the union of that shard of each list
 pub shards_merge : ShardsMerge

@@ -2,7 +2,7 @@
 use Rattle.intaglio_frozen.proofs.Names.{common_steps, gets, slice_get_within, slice_get-map, slice_get-get_or, Key, first, AreDistinct, first_of, first-none, first-some, tags_at, key0, key1, if_same, find_at, FindsAll, hash_under, cases_lt, AreFoundBelow, AreFoundFrom, AreHashesFrom, map_more}
 use Rattle.std.proofs.Common.{◌≡◌, ℕ, suc, ◌+◌, ◌*◌, ◌%◌, ◌<◌, ◌==◌, Bool, true, cond, List, [], ◌∷◌, length, get_or, slice_get, Option, Some, None, map, refl, sym, ap, ◌∙◌, arith, bytes_eq, ◌⊎◌, inl, inr, ◌-◌, ◌≤◌, ◌++◌, take, option_map}
 use Rattle.std.specs.Cmp.Lexicographic.{bytes_decides}
-use Rattle.intaglio_frozen.proofs.Sharded.{distinct_from}
+use Rattle.intaglio_frozen.proofs.Sharded.{distinct-from}
 use Rattle.intaglio_hash.specs.Numbers.{u32_at}
 use Rattle.intaglio_frozen.specs.Layout.{strings}
 use Rattle.intaglio_frozen.specs.LookUp.{hash, place, find}
@@ -12,26 +12,26 @@ abbrev pub key : List ℕ → Key
 key w = w ∷ []
 
 -- if the key at a position is that of a text, the text is there
-key_at : (ts : List (List ℕ)) (j : ℕ) (d : Key) (w : List ℕ) → j < length (map key ts) →
+key-at : (ts : List (List ℕ)) (j : ℕ) (d : Key) (w : List ℕ) → j < length (map key ts) →
     get_or (map key ts) j d ≡ key w → slice_get ts j ≡ Some w
-key_at ts j d w l e = grind (arith, common_steps, gets)
+key-at ts j d w l e = grind (arith, common_steps, gets)
 
 -- where a text is, there is a key, and it is that text's
-pub at_key : (ts : List (List ℕ)) (j : ℕ) (d : Key) (w : List ℕ) → slice_get ts j ≡ Some w →
+pub at-key : (ts : List (List ℕ)) (j : ℕ) (d : Key) (w : List ℕ) → slice_get ts j ≡ Some w →
     (j < length (map key ts)) × (get_or (map key ts) j d ≡ key w)
-at_key ts j d w e = grind (arith, common_steps, gets)
+at-key ts j d w e = grind (arith, common_steps, gets)
 
 -- if a result is a position of a text or none, and each position of the text is the result, it is the first
-by_result : (ts : List (List ℕ)) (w : List ℕ) (r : Option ℕ) →
+by-result : (ts : List (List ℕ)) (w : List ℕ) (r : Option ℕ) →
     ((s : ℕ) → r ≡ Some s → slice_get ts s ≡ Some w) → ((i : ℕ) → slice_get ts i ≡ Some w → r ≡ Some i) →
     r ≡ first key ts (key w)
-by_result ts w None sound complete =
+by-result ts w None sound complete =
     sym (first-none (map key ts) (key w) (λ j l e. let q : ◌≡◌ {A = Option ℕ} None (Some j) =
-    complete j (key_at ts j [] w l e) in cc))
-by_result ts w (Some s) sound complete =
-    let h = at_key ts s [] w (sound s refl) in
+    complete j (key-at ts j [] w l e) in cc))
+by-result ts w (Some s) sound complete =
+    let h = at-key ts s [] w (sound s refl) in
     sym (first-some (map key ts) (key w) s h.0 h.1 (λ j l e. let q : Some s ≡ Some j =
-    complete j (key_at ts j [] w (omega (arith, l, h.0)) e) in let same : s ≡ j = cc in
+    complete j (key-at ts j [] w (omega (arith, l, h.0)) e) in let same : s ≡ j = cc in
     omega (arith, l, same)))
 
 -- if a test leaves a symbol or none, and a symbol is left, the test is passed, and it is that symbol
@@ -43,50 +43,50 @@ passed : (b : Bool) (o : Option ℕ) (i : ℕ) → cond b o None ≡ Some i → 
 passed b o i e = grind (arith, common_steps)
 
 -- if a comparison with the string of a symbol finds one, it is this symbol, and the string is the sought one
-same_sound : (o : Option (List ℕ)) (s i : ℕ) (w : List ℕ) → if_same o s w ≡ Some i → (o ≡ Some w) × (s ≡ i)
-same_sound None s i w e = cc
-same_sound (Some t) s i w e =
+same-sound : (o : Option (List ℕ)) (s i : ℕ) (w : List ℕ) → if_same o s w ≡ Some i → (o ≡ Some w) × (s ≡ i)
+same-sound None s i w e = cc
+same-sound (Some t) s i w e =
     let h = tested (bytes_eq t w) s i e in
     (ap Some ((bytes_decides t w).0 h.0), h.1)
 
 -- what is found is the sought text
-pub find_sound : (bs w : List ℕ) (i : ℕ) → find bs w ≡ Some i → slice_get (strings bs) i ≡ Some w
+pub find-sound : (bs w : List ℕ) (i : ℕ) → find bs w ≡ Some i → slice_get (strings bs) i ≡ Some w
 unfolding find
-find_sound bs w i e =
+find-sound bs w i e =
     let p = place bs (hash bs w) in
     let s = u32_at bs (128 + 4 * p) in
-    let h = same_sound (slice_get (strings bs) s) s i w
+    let h = same-sound (slice_get (strings bs) s) s i w
     (passed (get_or bs (tags_at bs + p) 0 == hash bs w % 256) (if_same (slice_get (strings bs) s) s w) i
     e) in
     ap (slice_get (strings bs)) (sym h.1) ∙ h.0
 
 -- if each string is found where it is, a look-up finds the first position of a string, or none if it has none
-pub find_is_first : (bs w : List ℕ) → FindsAll bs → find bs w ≡ first key (strings bs) (key w)
-find_is_first bs w all = by_result (strings bs) w (find bs w) (λ s e. find_sound bs w s e) (λ i e. all i w e)
+pub find-is-first : (bs w : List ℕ) → FindsAll bs → find bs w ≡ first key (strings bs) (key w)
+find-is-first bs w all = by-result (strings bs) w (find bs w) (λ s e. find-sound bs w s e) (λ i e. all i w e)
 
 -- if each string is found at its position, no two strings have equal keys
 pub all_distinct : (bs : List ℕ) → FindsAll bs → AreDistinct (map key (strings bs))
-all_distinct bs all = distinct_from (strings bs) (λ i j w below one other.
+all_distinct bs all = distinct-from (strings bs) (λ i j w below one other.
     let found : Some i ≡ Some j = sym (all i w one) ∙ all j w other in
     let same : i ≡ j = cc in
     omega (arith, below, same))
 
 -- what is found, step by step
-pub find_by : (bs w : List ℕ) (h p : ℕ) → h ≡ hash bs w → p ≡ place bs h →
+pub find-by : (bs w : List ℕ) (h p : ℕ) → h ≡ hash bs w → p ≡ place bs h →
     find bs w ≡ find_at bs p (h % 256) w
 unfolding find
-find_by bs w h p eh ep = rw (ep, eh) refl
+find-by bs w h p eh ep = rw (ep, eh) refl
 
 -- at a place that has another tag, nothing is found
-pub at_other : (bs w : List ℕ) (p tag t : ℕ) → t ≡ tags_at bs → (get_or bs (t + p) 0 ≡ tag → ⊥) →
+pub at-other : (bs w : List ℕ) (p tag t : ℕ) → t ≡ tags_at bs → (get_or bs (t + p) 0 ≡ tag → ⊥) →
     find_at bs p tag w ≡ None
-at_other bs w p tag t et n = grind (arith, common_steps)
+at-other bs w p tag t et n = grind (arith, common_steps)
 
 -- at a place that has the tag, its symbol is found if its string is the sought one, and else nothing
-pub at_same : (bs w : List ℕ) (p tag t s : ℕ) → t ≡ tags_at bs → get_or bs (t + p) 0 ≡ tag →
+pub at-same : (bs w : List ℕ) (p tag t s : ℕ) → t ≡ tags_at bs → get_or bs (t + p) 0 ≡ tag →
     s ≡ u32_at bs (128 + 4 * p) →
     find_at bs p tag w ≡ if_same (slice_get (strings bs) s) s w
-at_same bs w p tag t s et e es = grind (arith, common_steps)
+at-same bs w p tag t s et e es = grind (arith, common_steps)
 
 -- what a test of the only symbol finds
 pub same-string : (s : ℕ) (o : Option (List ℕ)) (t w : List ℕ) (b : Bool) → o ≡ Some t → bytes_eq t w ≡ b →
@@ -94,16 +94,16 @@ pub same-string : (s : ℕ) (o : Option (List ℕ)) (t w : List ℕ) (b : Bool) 
 same-string s o t w b e eb = rw (e, eb) refl
 
 -- the string at i is found there if its place has the symbol i
-pub found_same : (bs w : List ℕ) (s i : ℕ) → slice_get (strings bs) i ≡ Some w →
+pub found-same : (bs w : List ℕ) (s i : ℕ) → slice_get (strings bs) i ≡ Some w →
     find bs w ≡ if_same (slice_get (strings bs) s) s w → s ≡ i → find bs w ≡ Some i
-found_same bs w s i at e same =
+found-same bs w s i at e same =
     e ∙ same-string s (slice_get (strings bs) s) w w true (ap (slice_get (strings bs)) same
     ∙ at) ((bytes_decides w w).1 refl) ∙ ap Some same
 
 -- if a look-up may find the symbol s alone, it finds no other
-pub found_other : (bs w : List ℕ) (s i : ℕ) → find bs w ≡ if_same (slice_get (strings bs) s) s w →
+pub found-other : (bs w : List ℕ) (s i : ℕ) → find bs w ≡ if_same (slice_get (strings bs) s) s w →
     (s ≡ i → ⊥) → find bs w ≡ Some i → ⊥
-found_other bs w s i e other found = other (same_sound (slice_get (strings bs) s) s i w (sym e ∙ found)).1
+found-other bs w s i e other found = other (same-sound (slice_get (strings bs) s) s i w (sym e ∙ found)).1
 
 -- two lists with the same text at each position
 pub same_by_get : (xs ys : List (List ℕ)) (n : ℕ) → n ≡ length xs → n ≡ length ys →
@@ -118,9 +118,9 @@ same_by_get xs ys n e f g = absurd (omega arith)
 -- What is found of strings, batch by batch.
 
 -- those before, and a batch
-pub found_further : (bs : List ℕ) (start n : ℕ) → AreFoundBelow bs start → AreFoundFrom bs start n →
+pub found-further : (bs : List ℕ) (start n : ℕ) → AreFoundBelow bs start → AreFoundFrom bs start n →
     AreFoundBelow bs (start + n)
-found_further bs start n before after = λ k l. elim (cases_lt k start) [
+found-further bs start n before after = λ k l. elim (cases_lt k start) [
   | inl below ↦ before k below
   | inr above ↦
       let same : start + (k - start) ≡ k = omega arith in rw same at (after (k - start) (omega arith))
@@ -151,36 +151,36 @@ element (s ∷ ss) n lt = s
 
 module _ {S : Type 0} (all : List S) (n : ℕ) where
   -- the string there
-  pub string_there : (string : S → List ℕ) (d : S) → n < length all →
+  pub string-there : (string : S → List ℕ) (d : S) → n < length all →
       slice_get (map string all) n ≡ Some (string (get_or all n d))
-  string_there string d lt = slice_get-map string all n ∙ ap (option_map string) (slice_get-get_or all n d lt)
+  string-there string d lt = slice_get-map string all n ∙ ap (option_map string) (slice_get-get_or all n d lt)
 
   -- what is found of those so far, and of one more
-  pub found_more : {Y : Type 0} (f : S → Y) (d : S) (old new : List Y) (y : Y) → n < length all →
+  pub found-more : {Y : Type 0} (f : S → Y) (d : S) (old new : List Y) (y : Y) → n < length all →
       old ≡ map f (take n all) → new ≡ old ++ y ∷ [] → y ≡ f (get_or all n d)
       → new ≡ map f (take (n + 1) all)
-  found_more f d old new y lt before more is = more ∙ rw (before, is, map_more f all n d lt) refl
+  found-more f d old new y lt before more is = more ∙ rw (before, is, map_more f all n d lt) refl
 
 -- what is found of strings in a frozen table are their first positions
-pub found_first : {S : Type 0} (string : S → List ℕ) (bs : List ℕ) (ss : List S) → FindsAll bs
+pub found-first : {S : Type 0} (string : S → List ℕ) (bs : List ℕ) (ss : List S) → FindsAll bs
     → map (λ s. find bs (string s)) ss ≡ map (λ s. first (λ w. w ∷ []) (strings bs) (string s ∷ [])) ss
-found_first string bs [] all = refl
-found_first string bs (s ∷ ss) all =
-    let here = find_is_first bs (string s) all in
-    let others = found_first string bs ss all in
+found-first string bs [] all = refl
+found-first string bs (s ∷ ss) all =
+    let here = find-is-first bs (string s) all in
+    let others = found-first string bs ss all in
     cc
 
 -- Contents whose keys are their spellings.
 
 -- if the key of each content is its spelling alone, the keys of contents are those of their spellings
-spelled_keys : {C : Type 0} (key : C → Key) (spelling : C → List ℕ) → ((c : C) → key c ≡ spelling c ∷ []) →
+spelled-keys : {C : Type 0} (key : C → Key) (spelling : C → List ℕ) → ((c : C) → key c ≡ spelling c ∷ []) →
     (cs : List C) →
     map key cs ≡ map (λ w. w ∷ []) (map spelling cs)
-spelled_keys key spelling same [] = refl
-spelled_keys key spelling same (c ∷ cs) = λ i. same c i ∷ spelled_keys key spelling same cs i
+spelled-keys key spelling same [] = refl
+spelled-keys key spelling same (c ∷ cs) = λ i. same c i ∷ spelled-keys key spelling same cs i
 
 -- if each content's key is its spelling alone, a key is first at the same place in contents and spellings
 pub first_spelled : {C : Type 0} (key : C → Key) (spelling : C → List ℕ) →
     ((c : C) → key c ≡ spelling c ∷ []) → (cs : List C) (k : Key) →
     first key cs k ≡ first (λ w. w ∷ []) (map spelling cs) k
-first_spelled key spelling same cs k = ap (λ keys. first_of keys k) (spelled_keys key spelling same cs)
+first_spelled key spelling same cs k = ap (λ keys. first_of keys k) (spelled-keys key spelling same cs)

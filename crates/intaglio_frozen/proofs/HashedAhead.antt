@@ -20,9 +20,9 @@ pub behind : (strings : List (List ℕ)) (place i : ℕ) (string : List ℕ) →
 behind strings place i string there = grind (arith, common_steps, gets)
 
 module _ (P : List ℕ → ℕ → Type 0) where
-  no_strings : (ns : List ℕ) → AreFirst P [] ns
-  no_strings [] = tt
-  no_strings (n ∷ ns) = tt
+  no-strings : (ns : List ℕ) → AreFirst P [] ns
+  no-strings [] = tt
+  no-strings (n ∷ ns) = tt
 
   -- the number of a string, and those of the strings behind it
   pub first : (strings : List (List ℕ)) (ns : List ℕ) (i used : ℕ) (string : List ℕ) →
@@ -50,15 +50,15 @@ module _ (P : List ℕ → ℕ → Type 0) where
       rw (take_more_set ns i n inside, append_assoc)
       (continues (n ∷ behind) (rw (drop_there all i string there) (is, are)))
 
-  at_end : (all : List (List ℕ)) (ns : List ℕ) (i : ℕ) → (length all ≤ i) ⊎ (length ns ≤ i) →
+  at-end : (all : List (List ℕ)) (ns : List ℕ) (i : ℕ) → (length all ≤ i) ⊎ (length ns ≤ i) →
       AreFirst P (drop i all) (drop i ns)
-  at_end all ns i (inl end) = rw (drop_all i all end) (no_strings (drop i ns))
-  at_end all ns i (inr end) = rw (drop_all i ns end) tt
+  at-end all ns i (inl end) = rw (drop_all i all end) (no-strings (drop i ns))
+  at-end all ns i (inr end) = rw (drop_all i ns end) tt
 
   -- in the end they are the numbers of all strings, as far as both lists go
   pub all_first : (all : List (List ℕ)) (ns : List ℕ) (i : ℕ) → (length all ≤ i) ⊎ (length ns ≤ i) →
       Continues all (drop i all) (take i ns) → AreFirst P all ns
-  all_first all ns i ends continues = rw take-append-drop at (continues (drop i ns) (at_end all ns i ends))
+  all_first all ns i ends continues = rw take-append-drop at (continues (drop i ns) (at-end all ns i ends))
 
 -- the same of numbers that are fixed
 module _ (f : List ℕ → ℕ) (all : List (List ℕ)) (ns : List ℕ) (i : ℕ) where
@@ -70,6 +70,6 @@ module _ (f : List ℕ → ℕ) (all : List (List ℕ)) (ns : List ℕ) (i : ℕ
       ∙ ap (map f) (sym (take_there all i string there))
 
   -- in the end they are those of all strings
-  pub all_mapped : length all ≤ i → length ns ≡ length all → take i ns ≡ map f (take i all) → ns ≡ map f all
-  all_mapped end places are = sym (take_all i ns (omega (arith, end, places))) ∙ are
+  pub all-mapped : length all ≤ i → length ns ≡ length all → take i ns ≡ map f (take i all) → ns ≡ map f all
+  all-mapped end places are = sym (take_all i ns (omega (arith, end, places))) ∙ are
       ∙ ap (map f) (take_all i all end)

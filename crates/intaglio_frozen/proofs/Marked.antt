@@ -7,17 +7,17 @@ abbrev pub is_in : List ℕ → ℕ → ℕ → Bool
 is_in hs g h = scaled (groups_for (length hs)) h == g
 
 -- one more string of a group is counted
-pub counted_more : (hs sizes : List ℕ) (i at x g : ℕ) → i < length hs → at ≡ group_at hs i →
+pub counted-more : (hs sizes : List ℕ) (i at x g : ℕ) → i < length hs → at ≡ group_at hs i →
     at < length sizes → x ≡ get_or sizes at 0 + 1 →
     get_or sizes g 0 ≡ count_by (is_in hs g) (take i hs) →
     get_or (set sizes at x) g 0 ≡ count_by (is_in hs g) (take (i + 1) hs)
-counted_more hs sizes i at x g l is within more so_far = grind (arith, common_steps)
+counted-more hs sizes i at x g l is within more so_far = grind (arith, common_steps)
 
 module _ (hs : List ℕ) (pilots : ℕ → ℕ) (g : ℕ) where
   -- one more place of a group before is marked
-  pub marked_more : (marks : List ℕ) (n at i : ℕ) → at < length marks → IsBeforeAt hs pilots g at i →
+  pub marked-more : (marks : List ℕ) (n at i : ℕ) → at < length marks → IsBeforeAt hs pilots g at i →
       AreMarked hs pilots g marks n → AreMarked hs pilots g (set marks at taken_mark) n
-  marked_more marks n at i l is old = record {
+  marked-more marks n at i l is old = record {
     taken = λ p e. elim (cases_eq p at) [
       | inl same ↦ (i, rw same is)
       | inr other ↦ old.taken p (sym (get_or-set_other marks at p taken_mark 0 other) ∙ e)
@@ -41,8 +41,8 @@ module _ (hs : List ℕ) (pilots : ℕ → ℕ) (g : ℕ) where
       (l : k < length members) (is : place_under hs (get_or members k 0) q ≡ at)
       (old : AreTried members q marks k) where
     -- the place of a string is that of a group before
-    pub place_taken : get_or marks at 0 ≡ taken_mark → (j : ℕ) × HasNoPlace hs pilots g q j
-    place_taken e =
+    pub place-taken : get_or marks at 0 ≡ taken_mark → (j : ℕ) × HasNoPlace hs pilots g q j
+    place-taken e =
         let found = old.marked.taken at e in (
           get_or members k 0,
           record {
@@ -53,8 +53,8 @@ module _ (hs : List ℕ) (pilots : ℕ → ℕ) (g : ℕ) where
         )
 
     -- the place of a string is that of one of the same group
-    pub place_tried : get_or marks at 0 ≡ q + 1 → (j : ℕ) × HasNoPlace hs pilots g q j
-    place_tried e =
+    pub place-tried : get_or marks at 0 ≡ q + 1 → (j : ℕ) × HasNoPlace hs pilots g q j
+    place-tried e =
         let found = old.mine at e in
         let here : IsEarlierAt hs g q (place_under hs (get_or members k 0) q) (get_or members k 0)
         (get_or members found.0 0) = record {

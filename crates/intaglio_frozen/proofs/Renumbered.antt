@@ -34,55 +34,55 @@ module _ (new : List (List ℕ)) (distinct : Distinct string_key new) where
   apart a b w below one other = grind (arith, common_steps, gets, distinct a b [] below)
 
   -- so two maps to these strings are equal
-  pub one_map : (old : List (List ℕ)) (numbers others : List ℕ) → IsMap old new numbers →
+  pub one-map : (old : List (List ℕ)) (numbers others : List ℕ) → IsMap old new numbers →
       IsMap old new others → numbers ≡ others
-  one_map [] [] [] one other = refl
-  one_map (w ∷ old) (a ∷ numbers) (b ∷ others) one other =
+  one-map [] [] [] one other = refl
+  one-map (w ∷ old) (a ∷ numbers) (b ∷ others) one other =
       let at-a : slice_get new a ≡ Some w = cc in
       let at-b : slice_get new b ≡ Some w = cc in
       let here : a ≡ b = grind (arith, apart a b w, apart b a w) in
-      let rest : numbers ≡ others = one_map old numbers others (cc) (cc) in
+      let rest : numbers ≡ others = one-map old numbers others (cc) (cc) in
       cc
-  one_map old numbers others one other = cc
+  one-map old numbers others one other = cc
 
 -- only one map leads to strings of which no two are equal
 pub unique : MapsAreUnique
-unique old new numbers others distinct one other = one_map new distinct old numbers others one other
+unique old new numbers others distinct one other = one-map new distinct old numbers others one other
 
 -- a key that is found at once or behind is found after strings are interned
-found_next : (held seen : List (List ℕ)) (w : List ℕ) (k : Key)
+found-next : (held seen : List (List ℕ)) (w : List ℕ) (k : Key)
     → (is_some (first string_key seen k) ≡ true
     → is_some (first string_key (interned_all string_key held (w ∷ seen)) k) ≡ true)
     → is_some (first string_key (w ∷ seen) k) ≡ true
     → is_some (first string_key (interned_all string_key held (w ∷ seen)) k) ≡ true
-found_next held seen w k again e =
+found-next held seen w k again e =
     let here = first-still string_key (interned string_key held w) seen (string_key w) _ (issued-found string_key held w) in
     grind (arith, common_steps, key_eq-decides (string_key w) k)
 
 -- a key that is found among strings is found after these are interned
-found_again : (held seen : List (List ℕ)) (k : Key) → is_some (first string_key seen k) ≡ true →
+found-again : (held seen : List (List ℕ)) (k : Key) → is_some (first string_key seen k) ≡ true →
     is_some (first string_key (interned_all string_key held seen) k) ≡ true
-found_again held [] k e = cc
-found_again held (w ∷ seen) k e = found_next held seen w k (found_again (interned string_key held w) seen k) e
+found-again held [] k e = cc
+found-again held (w ∷ seen) k e = found-next held seen w k (found-again (interned string_key held w) seen k) e
 
 -- interning a string into what was seen, and all of that then, is interning all of that and then the string
 module _ (held seen : List (List ℕ)) (w : List ℕ) where
   step : (b : Bool) → is_some (first string_key seen (string_key w)) ≡ b
       → interned_all string_key held (cond b seen (seen ++ w ∷ []))
       ≡ interned string_key (interned_all string_key held seen) w
-  step true is = let again = found_again held seen (string_key w) is in rw again refl
+  step true is = let again = found-again held seen (string_key w) is in rw again refl
   step false is = interned_all-append string_key held seen (w ∷ [])
 
 -- interning what interning strings into others leaves is interning these others, and then the strings
-absorbed_seen : (held seen ws : List (List ℕ)) →
+absorbed-seen : (held seen ws : List (List ℕ)) →
     interned_all string_key held (interned_all string_key seen ws)
     ≡ interned_all string_key (interned_all string_key held seen) ws
-absorbed_seen held seen [] = refl
-absorbed_seen held seen (w ∷ ws) =
-    absorbed_seen held (interned string_key seen w) ws
+absorbed-seen held seen [] = refl
+absorbed-seen held seen (w ∷ ws) =
+    absorbed-seen held (interned string_key seen w) ws
     ∙ ap (λ t. interned_all string_key t ws)
     (step held seen w (is_some (first string_key seen (string_key w))) refl)
 
 -- lists that are merged first, and then with others, have the union that they have at once
 pub nested : MergingNests
-nested before lists after = grind (arith, common_steps, flat_map-append, interned_all-append, absorbed_seen)
+nested before lists after = grind (arith, common_steps, flat_map-append, interned_all-append, absorbed-seen)

@@ -2,7 +2,7 @@
 -- table has them. A lower one is that of an equal string before (`again`), so this pair is the first.
 use Rattle.intaglio_frozen.proofs.Names.{common_steps, slice_get_within}
 use Rattle.std.proofs.Common.{◌≡◌, ◌∙◌, ◌∷◌, ◌++◌, [], length, take, ap, arith, length-take-le, take_all}
-use Rattle.intaglio_frozen.proofs.Distinct.{added, again, none_equal}
+use Rattle.intaglio_frozen.proofs.Distinct.{added, again, none-equal}
 use Rattle.intaglio_frozen.proofs.HashedAhead.{take_there}
 use Rattle.intaglio_frozen.proofs.equal.equal_strings.Goals as goal
 
@@ -30,7 +30,7 @@ returns-then-id-i g c =
           c.in_ok-symbol.symbol c.string.result.now
           c.loop-i.invariant.contents c.string.ensures below c.in_ok-symbol.ensures.interned.kept
           c.in_ok-symbol.ensures.interned.stored,
-      none_equal (take c.loop-i.i ws) (rw c.loop-i.invariant.contents at c.loop-i.invariant.distinct),
+      none-equal (take c.loop-i.i ws) (rw c.loop-i.invariant.contents at c.loop-i.invariant.distinct),
     )
 
 pub returns : goal.returns
@@ -38,4 +38,4 @@ returns g c =
     let ws = g.L.StringList.strings c.args.list.now in
     let all = c.loop-i.invariant.contents
     ∙ take_all c.loop-i.i ws (omega (arith, c.loop-i-test.false, c.len-i-end.ensures)) in
-    none_equal ws (rw all at c.loop-i.invariant.distinct)
+    none-equal ws (rw all at c.loop-i.invariant.distinct)

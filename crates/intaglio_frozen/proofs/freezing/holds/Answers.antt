@@ -8,9 +8,9 @@ use Rattle.intaglio_frozen.specs.declared.kind.FrozenKind.TheVariants.{Bytes, Te
 use Rattle.intaglio_frozen.proofs.freezing.holds.Goals as goal
 
 -- the kind with the number of texts is that of texts
-text_of : (kind : FrozenKind) → number_of kind ≡ text_kind → kind ≡ Text
-text_of Bytes e = cc
-text_of Text e = refl
+text-of : (kind : FrozenKind) → number_of kind ≡ text_kind → kind ≡ Text
+text-of Bytes e = cc
+text-of Text e = refl
 
 pub returns-then-has_id-clause-table : goal.returns-then-has_id-clause-table
 returns-then-has_id-clause-table g c = λ found.
@@ -22,7 +22,7 @@ returns-then-has_id-clause-table g c = λ found.
         block = search rules;
         unused = search rules;
         found = search rules;
-        texts = λ is. rw same (c.requires.allowed.texts (text_of c.args.kind (sym kind_is ∙ is)));
+        texts = λ is. rw same (c.requires.allowed.texts (text-of c.args.kind (sym kind_is ∙ is)));
         id = search rules;
       };
       strings = same;

@@ -1,8 +1,8 @@
--- Absorbing one more list makes the union of all so far, and the earlier maps stay maps (`union_next`,
--- `maps_next`). If the table overflows on the way, the union of all lists would too (`union_over`).
+-- Absorbing one more list makes the union of all so far, and the earlier maps stay maps (`union-next`,
+-- `maps-next`). If the table overflows on the way, the union of all lists would too (`union-over`).
 use Rattle.intaglio_frozen.proofs.Names.{common_steps, take_at_read, map-append, map-id, take-map, err_from_is_err_and, IfOverflow, interned_all, string_key, union, AreMaps, IsMap}
 use Rattle.std.proofs.Common.{◌≡◌, ◌∙◌, ◌+◌, ◌^◌, ◌<◌, ◌++◌, [], ◌∷◌, ap, length, map, refl, subst, sym, take, rules, arith}
-use Rattle.intaglio_frozen.proofs.Absorbed.{if_overflow, maps_next, union_next, union_over}
+use Rattle.intaglio_frozen.proofs.Absorbed.{if-overflow, maps-next, union-next, union-over}
 use Rattle.intaglio_frozen.proofs.merging.merge_tables.Goals as goal
 
 pub loop-i-preserved : goal.loop-i-preserved
@@ -19,14 +19,14 @@ loop-i-preserved g c =
     let next : map strings (take (i + 1) lists) ≡ front ++ ws ∷ [] = grind (arith, common_steps) in
     let held : map (λ w. w) new ≡ interned_all string_key (map (λ w. w) old) ws =
     c.in_ok-symbols.ensures.held in
-    let after : new ≡ union (front ++ ws ∷ []) = grind (arith, common_steps, map-id, union_next) in
+    let after : new ≡ union (front ++ ws ∷ []) = grind (arith, common_steps, map-id, union-next) in
     let same : IsMap ws (map (λ w. w) new) symbols = c.in_ok-symbols.ensures.same (λ w. refl) in
     let is : IsMap ws (union (front ++ ws ∷ [])) symbols =
     subst (λ t. IsMap ws t symbols) (map-id new ∙ after) same in
     let before : AreMaps front (union front) (map (λ m. m.items) c.loop-i.maps.items) = grind (arith, common_steps) in
     let items : c.push_reserved.new.self.items ≡ c.loop-i.maps.items ++ c.in_ok-symbols.symbols ∷ [] =
     search rules in
-    let maps = maps_next front ws (map (λ m. m.items) c.loop-i.maps.items) symbols before is in
+    let maps = maps-next front ws (map (λ m. m.items) c.loop-i.maps.items) symbols before is in
     record {
       union = after ∙ ap union (sym next);
       maps = grind (arith, common_steps);
@@ -47,14 +47,14 @@ returns-in_err-symbols-clause-overflow g c =
     let old = c.loop-i.table.state.contents in
     let e = c.in_err-symbols.field-0.0 in
     let next : take (i + 1) (map strings lists) ≡ front ++ ws ∷ [] = grind (arith, common_steps, take-map, take_at_read, map-append) in
-    let held : interned_all string_key (map (λ w. w) old) ws ≡ union (take (i + 1) (map strings lists)) = grind (arith, common_steps, map-id, union_next) in
+    let held : interned_all string_key (map (λ w. w) old) ws ≡ union (take (i + 1) (map strings lists)) = grind (arith, common_steps, map-id, union-next) in
     let full : IfOverflow e
     (c.loop-i.table.state.limit < length (interned_all string_key (map (λ w. w) old) ws)) =
     c.in_err-symbols.ensures.overflow in
     let more =
-    if_overflow e
+    if-overflow e
     (λ over.
-    union_over (2 ^ 32) (i + 1) (map strings lists) (rw (held, c.loop-i.invariant.limit) at over))
+    union-over (2 ^ 32) (i + 1) (map strings lists) (rw (held, c.loop-i.invariant.limit) at over))
     full in
     let passed =
     err_from_is_err_and c.from_residual-in_err-symbols.result c.from_residual-in_err-symbols.ensures.1 in

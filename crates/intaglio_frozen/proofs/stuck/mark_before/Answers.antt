@@ -1,8 +1,8 @@
 -- The place that a turn marks is that of string i under the pilot of its group, which `is_before` says is
--- placed before this one (`marked_more`).
+-- placed before this one (`marked-more`).
 use Rattle.intaglio_frozen.proofs.Names.{common_steps, IsBefore, place_under}
 use Rattle.std.proofs.Common.{◌∙◌, ℕ, ap, get_or, subst, sym, arith}
-use Rattle.intaglio_frozen.proofs.Marked.{marked_more}
+use Rattle.intaglio_frozen.proofs.Marked.{marked-more}
 use Rattle.intaglio_frozen.proofs.stuck.mark_before.Goals.{then-is_before, else-is_before}
 use Rattle.intaglio_frozen.proofs.stuck.mark_before.Goals as goal
 
@@ -21,7 +21,7 @@ loop-i-preserved c =
           record {
             len = grind (arith, common_steps);
             marked = rw w.marks-is
-                (marked_more hs ps g marks 0 at i (omega (arith, w.place_under.ensures.below, old.len, c.requires.marks))
+                (marked-more hs ps g marks 0 at i (omega (arith, w.place_under.ensures.below, old.len, c.requires.marks))
                 (record {
                   there = c.loop-i-test.true;
                   before = subst (λ f. IsBefore hs f g) other

@@ -1,8 +1,8 @@
--- A string counts for its own group and no other (`counted_more`). No group has more strings than there are,
+-- A string counts for its own group and no other (`counted-more`). No group has more strings than there are,
 -- so no size overflows.
 use Rattle.intaglio_frozen.proofs.Names.{common_steps, get_or_default, length-take-le, count_by-le-length}
 use Rattle.std.proofs.Common.{◌∙◌, ◌+◌, ◌<◌, length-set, take, arith}
-use Rattle.intaglio_frozen.proofs.Marked.{is_in, counted_more}
+use Rattle.intaglio_frozen.proofs.Marked.{is_in, counted-more}
 use Rattle.intaglio_frozen.proofs.stuck.sizes_of.Goals as goal
 
 pub overflow_add-index_mut : goal.overflow_add-index_mut
@@ -18,4 +18,4 @@ overflow_add-index_mut c =
     record { fits = grind (arith, common_steps) }
 
 pub loop-i-preserved : goal.loop-i-preserved
-loop-i-preserved c = grind (arith, common_steps, get_or_default, length-set, counted_more)
+loop-i-preserved c = grind (arith, common_steps, get_or_default, length-set, counted-more)

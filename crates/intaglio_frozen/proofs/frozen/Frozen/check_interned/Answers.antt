@@ -1,7 +1,7 @@
 -- By the invariant each string is found at its symbol. So a look-up finds the first position
--- (`find_is_first`), and no two strings are equal (`all_distinct`).
+-- (`find-is-first`), and no two strings are equal (`all_distinct`).
 use Rattle.std.proofs.Common.{◌∙◌}
-use Rattle.intaglio_frozen.proofs.Found.{find_is_first, all_distinct}
+use Rattle.intaglio_frozen.proofs.Found.{find-is-first, all_distinct}
 use Rattle.intaglio_frozen.proofs.frozen.Frozen.check_interned.Goals as goal
 
 pub returns-clause-distinct : goal.returns-clause-distinct
@@ -10,4 +10,4 @@ returns-clause-distinct c = rw (← c.self.view_is) (all_distinct c.self.inside.
 pub returns-clause-value : goal.returns-clause-value
 returns-clause-value c =
     rw (← c.self.view_is) (c.find.ensures
-    ∙ find_is_first c.self.inside.block c.args.string.now c.self.invariant.found)
+    ∙ find-is-first c.self.inside.block c.args.string.now c.self.invariant.found)

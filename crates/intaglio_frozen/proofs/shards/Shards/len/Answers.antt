@@ -1,6 +1,6 @@
 use Rattle.intaglio_frozen.proofs.Names.{common_steps, slice_get_read, joined}
 use Rattle.std.proofs.Common.{◌≡◌, ◌-◌, ◌+◌, Some, ap, arith, length, slice_get}
-use Rattle.intaglio_frozen.proofs.Sharded.{all_taken, start_read}
+use Rattle.intaglio_frozen.proofs.Sharded.{all-taken, start-read}
 use Rattle.intaglio_frozen.proofs.shards.Shards.len.Goals as goal
 
 -- the last shard ends where all end
@@ -11,10 +11,10 @@ count c =
     let ws = c.index-2.result.now in
     let at : slice_get shards last ≡ Some ws = grind (arith, common_steps, slice_get_read) in
     let start =
-    start_read c.self.inside.starts.items shards last c.index.result.now ws
+    start-read c.self.inside.starts.items shards last c.index.result.now ws
     c.self.invariant.starts at c.index.ensures in
     let all =
-    all_taken shards last ws at (omega arith) in
+    all-taken shards last ws at (omega arith) in
     omega (arith, start, c.len.ensures.count, all)
 
 pub returns-clause-count : goal.returns-clause-count
