@@ -214,11 +214,11 @@ module _ (bs : List ℕ) (i : ℕ) (byte : (k : ℕ) → get_or bs k 0 < 256) wh
   number-below j (suc (suc (suc (suc (suc (suc (suc (suc n)))))))) p = absurd (omega arith)
 
   -- the first of them fills the word
-  write_bytes-over_first : (j n : ℕ) (s : DefaultHasher) → s.length < 2 ^ 64 → s.length % 8 ≡ 7 → n ≤ 7
+  write_bytes-over-first : (j n : ℕ) (s : DefaultHasher) → s.length < 2 ^ 64 → s.length % 8 ≡ 7 → n ≤ 7
       → write_bytes (suc j) n (write_byte s (get_or bs (i + j) 0))
       ≡ with_tail (write_word s (bit_or s.tail ((number bs i j (suc n) * 2 ^ (8 * (s.length % 8))) % 2 ^ 64)))
       (number bs i j (suc n) / 2 ^ 8 / 2 ^ (56 - 8 * (s.length % 8))) (wrapping_add s.length (suc n))
-  write_bytes-over_first j n s fits last p =
+  write_bytes-over-first j n s fits last p =
       let b = get_or bs (i + j) 0 in
       let N = number bs i (suc j) n in
       let w = write_word s (with_byte s.tail (s.length % 8) b) in
@@ -262,7 +262,7 @@ module _ (bs : List ℕ) (i : ℕ) (byte : (k : ℕ) → get_or bs k 0 < 256) wh
             (write_word t (bit_or (with_byte s.tail k b) ((N * 2 ^ (8 * place x)) % 2 ^ 64)))
             (N / 2 ^ 8 / 2 ^ (56 - 8 * place x)) (count x))
             ∙ (λ x. with_tail (write_word s (tails x)) (rest x) (wrapping_add s.length (suc n)))
-        | inr h ↦ write_bytes-over_first j n s fits (omega arith) (omega arith)
+        | inr h ↦ write_bytes-over-first j n s fits (omega arith) (omega arith)
       ]
 
   -- a push writes the bytes of its number
