@@ -1,5 +1,5 @@
 -- Where the first piece of bytes ends: a line, or a code of four bytes.
-use Rattle.intaglio_columns.proofs.Names.{common_steps, position, prefix_len, slice_get, AllByRecursion, length-map, length-take, take-append-drop, take_rest, slice_get-map, lines_of, IsLine, lines_of-are_lines, lines_of-more, code_of, code_pieces, codes_of, StartsWith, last_piece}
+use Rattle.intaglio_columns.proofs.Names.{common_steps, position, prefix_len, slice_get, AllByRecursion, length-map, length-take, take-append-drop, take_rest, slice_get-map, lines_of, IsLine, lines_of-are-lines, lines_of-more, code_of, code_pieces, codes_of, StartsWith, last_piece}
 use Rattle.std.proofs.Common.{◌≡◌, ◌∙◌, sym, ap, refl, subst, ℕ, zero, suc, ◌+◌, ◌-◌, ◌*◌, ◌/◌, ◌%◌, ◌≤◌, Bool, true, eqb, eq-eqb, ltb, not, cond, length-drop, List, [], ◌∷◌, ◌++◌, length, take, drop, get_or, Option, None, Some, option_map, append_assoc, arith}
 use Rattle.std.proofs.lemmas.List.Folds.{prefix_len-append}
 use Rattle.intaglio_lines.proofs.LineCuts.{lines-cut-at, lines-cut-nowhere, position-None, position-Some, whole-cut-at}
@@ -11,7 +11,7 @@ line-starts bytes end is more =
     let rest = drop (end + 1) bytes in
     let cut : take (length bytes - (end + 1)) rest ≡ rest = take_rest bytes (end + 1) in
     let lines : AllByRecursion IsLine (take end bytes ∷ lines_of (take (length bytes - (end + 1)) rest)) =
-    subst (AllByRecursion IsLine) (lines-cut-at bytes end is) (lines_of-are_lines bytes) in
+    subst (AllByRecursion IsLine) (lines-cut-at bytes end is) (lines_of-are-lines bytes) in
     let whole : bytes ≡ take end bytes ++ 10 ∷ rest =
     whole-cut-at bytes end is ∙ ap (λ t. take end bytes ++ 10 ∷ t) cut in
     ap (λ t. lines_of (t ++ more)) whole ∙ ap lines_of (append_assoc (take end bytes) (10 ∷ rest) more)

@@ -21,7 +21,7 @@ pub use Rattle.intaglio_hash.specs.Push.{number}
 pub use Rattle.intaglio_interner.specs.Issue.{interned, interned_all, issue_from}
 pub use Rattle.intaglio_interner.specs.State.{State}
 pub use Rattle.intaglio_lines.proofs.Appended.{Appends-append, front-none, front-then, held-none, held-nothing}
-pub use Rattle.intaglio_lines.proofs.ByLines.{ended-append, flat_map-lines_of, lines_of-append, lines_of-are_lines, lines_of-more, texts}
+pub use Rattle.intaglio_lines.proofs.ByLines.{ended-append, flat_map-lines_of, lines_of-append, lines_of-are-lines, lines_of-more, texts}
 pub use Rattle.intaglio_lines.specs.Decoded.{IsLine, decoded, is_ended}
 pub use Rattle.intaglio_lines.specs.Lines.{lines_of}
 pub use Rattle.intaglio_lines.specs.Output.{number_line, spelling_line}

@@ -1,6 +1,6 @@
 -- The laws, from the lemmas on reading, on first equal lines and on symbols in order.
 use Rattle.std.proofs.Common.{◌≡◌, ◌≢◌, refl, List, ℕ, [], arith}
-use Rattle.intaglio_decode.proofs.Names.{lines_of, key_of, encoded, flat_map-lines_of, lines_of-are_lines, faults-exact, one-output, one-reading, FaultsAreExact, IsReadInOneWay, DecodingGivesFirstSpellings, DecodingGivesInput, EncodingKeepsInput, DecodingKeepsKeys, EncodingIsInOrder}
+use Rattle.intaglio_decode.proofs.Names.{lines_of, key_of, encoded, flat_map-lines_of, lines_of-are-lines, faults-exact, one-output, one-reading, FaultsAreExact, IsReadInOneWay, DecodingGivesFirstSpellings, DecodingGivesInput, EncodingKeepsInput, DecodingKeepsKeys, EncodingIsInOrder}
 use Rattle.intaglio_lines.specs.declared.kind.Kind.{Kind}
 use Rattle.intaglio_lines.specs.declared.kind.Kind.TheVariants.{Path}
 use Rattle.intaglio_decode.proofs.FirstEqual.{decodes-first, decoded-keys, firsts, holds-encoded}
@@ -22,7 +22,7 @@ spelled-alike _ other a b same = cc
 
 pub decoding_gives_the_input : DecodingGivesInput
 decoding_gives_the_input = λ kind input other.
-    let is = firsts (key_of kind) (lines_of input) (lines_of input) (lines_of-are_lines input) (lines_of-are_lines input) in
+    let is = firsts (key_of kind) (lines_of input) (lines_of input) (lines_of-are-lines input) (lines_of-are-lines input) in
     rw (is.2 (spelled-alike kind other), flat_map-lines_of input) at (decodes-first (key_of kind) input)
 
 pub encoding_keeps_the_input : EncodingKeepsInput

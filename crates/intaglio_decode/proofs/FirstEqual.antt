@@ -1,6 +1,6 @@
 -- What is encoded is decoded to each line in the first spelling that is equal to it.
 use Rattle.std.proofs.Common.{◌≡◌, sym, ap, refl, ℕ, ◌<◌, List, [], ◌∷◌, ◌++◌, length, map, find, get_or, Option, Some, option_map, unwrap_or, append-nil, append_assoc, arith}
-use Rattle.intaglio_decode.proofs.Names.{common_steps, flat_map, All, AllByRecursion, length-map, All-from_recursion, All-nil, All-push, find-append, flat_map-map, Key, key_eq, first, issued, interned, issue_from, issue, interned_all, key_eq-decides, some-below, issued-found, lines_of, spelling_line, encoded_by, IsLine, Holds, Decodes, first_equal, first_spellings, lines_of-are_lines, lines_of-flat_map}
+use Rattle.intaglio_decode.proofs.Names.{common_steps, flat_map, All, AllByRecursion, length-map, All-from_recursion, All-nil, All-push, find-append, flat_map-map, Key, key_eq, first, issued, interned, issue_from, issue, interned_all, key_eq-decides, some-below, issued-found, lines_of, spelling_line, encoded_by, IsLine, Holds, Decodes, first_equal, first_spellings, lines_of-are-lines, lines_of-flat_map}
 use Rattle.intaglio_interner.proofs.Held.{first-still}
 
 module _ (key : List ℕ → Key) where
@@ -55,7 +55,7 @@ module _ (key : List ℕ → Key) where
       let all = interned_all key [] lines in
       record {
         whole = refl;
-        lines = interned-lines [] lines (All-nil IsLine) (lines_of-are_lines input);
+        lines = interned-lines [] lines (All-nil IsLine) (lines_of-are-lines input);
         known = All-from_recursion (λ n. n < length all) (issue key lines) (issued-known all [] lines refl);
       }
 
@@ -96,4 +96,4 @@ module _ (key : List ℕ → Key) where
   pub decoded-keys : (input : List ℕ) →
       map key (lines_of (flat_map spelling_line (first_spellings key (lines_of input))))
       ≡ map key (lines_of input)
-  decoded-keys input = grind (arith, common_steps, lines_of-flat_map, lines_of-are_lines, firsts)
+  decoded-keys input = grind (arith, common_steps, lines_of-flat_map, lines_of-are-lines, firsts)

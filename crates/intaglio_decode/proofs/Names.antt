@@ -10,8 +10,8 @@ pub use Rattle.intaglio_interner.proofs.First.{first-some, key_eq-decides, some-
 pub use Rattle.intaglio_interner.proofs.Laws.{cut-keeps, issued-found}
 pub use Rattle.intaglio_interner.specs.Issue.{interned, interned_all, issue, issue_from, issued}
 pub use Rattle.intaglio_interner.specs.State.{Distinct, State, first, key_eq}
-pub use Rattle.intaglio_lines.proofs.ByLines.{flat_map-lines_of, lines_of-are_lines, lines_of-flat_map}
-pub use Rattle.intaglio_lines.proofs.Numbers.{digits, digits-from_number}
+pub use Rattle.intaglio_lines.proofs.ByLines.{flat_map-lines_of, lines_of-are-lines, lines_of-flat_map}
+pub use Rattle.intaglio_lines.proofs.Numbers.{digits, digits-from-number}
 pub use Rattle.intaglio_lines.proofs.Reading.{faults-exact, holds-read, known-lines, one-output, one-reading}
 pub use Rattle.intaglio_lines.specs.Decoded.{Decodes, Holds, IsLine, decoded, is_ended}
 pub use Rattle.intaglio_lines.specs.Encoded.{encoded, encoded_by}

@@ -1,7 +1,7 @@
 -- The lines of symbols, one by one.
 use Rattle.std.proofs.Common.{suc, ◌≡◌, ◌∙◌, ap, refl, ℕ, ◌-◌, ◌≤◌, one-add, true, false, eqb, List, [], ◌∷◌, length, get_or, Option, IsUtf8, arith}
 use Rattle.std.specs.Option.{option_or}
-use Rattle.intaglio_decode.proofs.Names.{before_first, lines_of, is_ended, Fault, is_blank, is_number, symbol_lines, digits, digits-from_number}
+use Rattle.intaglio_decode.proofs.Names.{before_first, lines_of, is_ended, Fault, is_blank, is_number, symbol_lines, digits, digits-from-number}
 use Rattle.std.proofs.lemmas.Str.{IsUtf8-from_ascii}
 use Rattle.std.proofs.lemmas.Fmt.{IsAscii-from_digits}
 use Rattle.intaglio_decode.specs.RestoreError.{Reports}
@@ -31,4 +31,4 @@ is_ended_last (byte ∷ next ∷ more) some =
 
 -- a number has digits alone, which are ASCII and so UTF-8
 pub number_utf8 : (line : List ℕ) → is_number line ≡ true → IsUtf8 line
-number_utf8 line is = IsUtf8-from_ascii line (IsAscii-from_digits line (digits.to line (digits-from_number line is).all))
+number_utf8 line is = IsUtf8-from_ascii line (IsAscii-from_digits line (digits.to line (digits-from-number line is).all))

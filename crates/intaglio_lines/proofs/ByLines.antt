@@ -9,13 +9,13 @@ use Rattle.intaglio_lines.proofs.LineCuts.{without_empty_last-cons, without_empt
 module _ (P : List ℕ → Type 0) (nothing : P []) (last : (line : List ℕ) → 0 < length line →
     IsLine line → P line)
     (more : (line rest : List ℕ) → IsLine line → P rest → P (line ++ 10 ∷ rest)) where
-  no_more : (line : List ℕ) → IsLine line → P (line ++ [])
-  no_more [] is = nothing
-  no_more (byte ∷ line) is = subst P (sym (append-nil (byte ∷ line))) (last (byte ∷ line) (omega arith) is)
+  no-more : (line : List ℕ) → IsLine line → P (line ++ [])
+  no-more [] is = nothing
+  no-more (byte ∷ line) is = subst P (sym (append-nil (byte ∷ line))) (last (byte ∷ line) (omega arith) is)
 
-  next_byte : (byte : ℕ) (bytes line : List ℕ) → IsLine line →
+  next-byte : (byte : ℕ) (bytes line : List ℕ) → IsLine line →
       ((front : List ℕ) → IsLine front → P (front ++ bytes)) → P (line ++ byte ∷ bytes)
-  next_byte byte bytes line is go =
+  next-byte byte bytes line is go =
       elim (cases_eq byte 10) as (λ _. P (line ++ byte ∷ bytes)) [
         | inl ten ↦
             subst (λ b. P (line ++ b ∷ bytes)) (sym ten) (more line bytes is (go [] (All-nil (λ b. b ≢ 10))))
@@ -28,13 +28,13 @@ module _ (P : List ℕ → Type 0) (nothing : P []) (last : (line : List ℕ) �
 
   -- behind a line that hasn't ended yet
   behind : (bytes line : List ℕ) → IsLine line → P (line ++ bytes)
-  behind [] line is = no_more line is
-  behind (byte ∷ bytes) line is = next_byte byte bytes line is (behind bytes)
+  behind [] line is = no-more line is
+  behind (byte ∷ bytes) line is = next-byte byte bytes line is (behind bytes)
 
   -- what holds of nothing, of a line that isn't ended, and of a line with byte 10 and bytes of
   -- which it holds, holds of all bytes
-  pub by_lines : (bytes : List ℕ) → P bytes
-  by_lines bytes = behind bytes [] (All-nil (λ b. b ≢ 10))
+  pub by-lines : (bytes : List ℕ) → P bytes
+  by-lines bytes = behind bytes [] (All-nil (λ b. b ≢ 10))
 
 -- the test for byte 10 is false for each byte of a line
 no-ten : (line : List ℕ) → IsLine line → All (λ b. eqb b 10 ≡ false) line
@@ -49,16 +49,16 @@ pub lines_of-last : (line : List ℕ) → 0 < length line → IsLine line → li
 lines_of-last line some is = grind (arith, common_steps, slice_split_none, eqb, no-ten, without_empty_last-one)
 
 -- no line holds a byte 10
-pub lines_of-are_lines : (bytes : List ℕ) → AllByRecursion IsLine (lines_of bytes)
-lines_of-are_lines =
-    by_lines (λ bytes. AllByRecursion IsLine (lines_of bytes)) tt
+pub lines_of-are-lines : (bytes : List ℕ) → AllByRecursion IsLine (lines_of bytes)
+lines_of-are-lines =
+    by-lines (λ bytes. AllByRecursion IsLine (lines_of bytes)) tt
     (λ line some is. rw (lines_of-last line some is) (is, tt))
     (λ line rest is all. rw (lines_of-more line rest is) (is, all))
 
 -- a line has its byte 10 or is the last
 pub length-lines_of : (bytes : List ℕ) → length (lines_of bytes) ≤ length bytes
 length-lines_of =
-    by_lines (λ bytes. length (lines_of bytes) ≤ length bytes) (omega arith)
+    by-lines (λ bytes. length (lines_of bytes) ≤ length bytes) (omega arith)
     (λ line some is. rw (lines_of-last line some is) (omega arith))
     (λ line rest is few. rw (lines_of-more line rest is) (omega (arith, length-append line (10 ∷ rest))))
 
@@ -85,7 +85,7 @@ is_ended-more line (byte ∷ rest) = is_ended-append line 10 (byte ∷ rest)
 pub flat_map-lines_of : (bytes : List ℕ) →
     flat_map spelling_line (lines_of bytes) ≡ with_last_line_ended bytes
 flat_map-lines_of =
-    by_lines (λ bytes. flat_map spelling_line (lines_of bytes) ≡ with_last_line_ended bytes) refl
+    by-lines (λ bytes. flat_map spelling_line (lines_of bytes) ≡ with_last_line_ended bytes) refl
     (λ line some is. grind (arith, common_steps, lines_of-last line some is, is_ended-line line some is))
     (λ line rest is same. grind (arith, common_steps, lines_of-more line rest is, is_ended-more line rest, same, append_assoc))
 
@@ -110,7 +110,7 @@ ended-append front (byte ∷ rest) ended end = is_ended-append front byte rest �
 pub lines_of-append : (front rest : List ℕ) → is_ended front ≡ true →
     lines_of (front ++ rest) ≡ lines_of front ++ lines_of rest
 lines_of-append front rest =
-    by_lines (λ front. is_ended front ≡ true → lines_of (front ++ rest) ≡ lines_of front ++ lines_of rest)
+    by-lines (λ front. is_ended front ≡ true → lines_of (front ++ rest) ≡ lines_of front ++ lines_of rest)
     (λ ended. refl)
     (λ line some is ended. grind (arith, common_steps, is_ended-line line some is))
     (λ line more is same ended. grind (arith, common_steps, append_assoc line (10 ∷ more) rest, lines_of-more line (more ++ rest) is, lines_of-more line more is, same, is_ended-more line more))
@@ -120,7 +120,7 @@ lines_of-append front rest =
 pub texts : (front rest : List ℕ) → is_ended front ≡ true → IsUtf8 (front ++ rest) →
     IsUtf8 front × IsUtf8 rest
 texts front rest =
-    by_lines (λ front. is_ended front ≡ true → IsUtf8 (front ++ rest) → IsUtf8 front × IsUtf8 rest)
+    by-lines (λ front. is_ended front ≡ true → IsUtf8 (front ++ rest) → IsUtf8 front × IsUtf8 rest)
     (λ ended text. (IsUtf8-nil, text))
     (λ line some is ended. grind (arith, common_steps, is_ended-line line some is))
     (λ line more is parts ended text.

@@ -3,8 +3,8 @@ use Rattle.intaglio_lines.proofs.Names.{common_steps, drop-append-add, flat_map,
 use Rattle.std.proofs.Common.{◌≢◌, ◌≡◌, ◌↔◌, ap, refl, ℕ, ◌+◌, ◌^◌, ◌<◌, ◌≤◌, true, false, lt-ltb, ltb-true, eqb-true, List, [], ◌∷◌, ◌++◌, length, map, decimal, Some, None, append_assoc, length-append, length-drop, arith}
 use Rattle.std.proofs.lemmas.List.Concat.{flat_map-append}
 use Rattle.std.proofs.lemmas.List.Folds.{flat_map-map, list_any-append}
-use Rattle.intaglio_lines.proofs.ByLines.{lines_of-are_lines, length-lines_of, lines_of-flat_map, flat_map-lines_of, is_ended-flat_map, length-le-flat_map}
-use Rattle.intaglio_lines.proofs.Numbers.{digits-from_number, IsLine-digits, is_number-decimal, number-decimal, decimal-number}
+use Rattle.intaglio_lines.proofs.ByLines.{lines_of-are-lines, length-lines_of, lines_of-flat_map, flat_map-lines_of, is_ended-flat_map, length-le-flat_map}
+use Rattle.intaglio_lines.proofs.Numbers.{digits-from-number, IsLine-digits, is_number-decimal, number-decimal, decimal-number}
 
 -- an output is its lines: the numbers, an empty one, and the spellings
 abbrev output_lines : List ℕ → List (List ℕ) → List (List ℕ)
@@ -27,7 +27,7 @@ decimals P go (n ∷ symbols) small = (go n small.0, decimals P go symbols small
 
 -- the decimals of numbers that fit 64 bits have no byte 10
 lines-decimal : (symbols : List ℕ) → AreSmall symbols → AllByRecursion IsLine (map decimal symbols)
-lines-decimal = decimals IsLine (λ n small. IsLine-digits (decimal n) (digits-from_number (decimal n) (is_number-decimal n small)).all)
+lines-decimal = decimals IsLine (λ n small. IsLine-digits (decimal n) (digits-from-number (decimal n) (is_number-decimal n small)).all)
 
 -- if numbers fit 64 bits and spellings are lines, both, with an empty one between, are their output's lines
 lines_of-output : (symbols : List ℕ) (spellings : List (List ℕ)) → AreSmall symbols →
@@ -41,7 +41,7 @@ AreWritten lines = AllByRecursion (λ line. is_blank line ≡ false) lines
 
 -- the decimals of numbers that fit 64 bits aren't empty
 written-decimal : (symbols : List ℕ) → AreSmall symbols → AreWritten (map decimal symbols)
-written-decimal = decimals (λ line. is_blank line ≡ false) (λ n small. let is = digits-from_number (decimal n) (is_number-decimal n small) in grind (arith, common_steps, is.some))
+written-decimal = decimals (λ line. is_blank line ≡ false) (λ n small. let is = digits-from-number (decimal n) (is_number-decimal n small) in grind (arith, common_steps, is.some))
 
 -- if the lines in front of an empty one aren't empty, it is the first empty one
 first-blank : (front back : List (List ℕ)) → AreWritten front →
@@ -146,7 +146,7 @@ fault-none bytes none = grind (arith, common_steps)
 -- what has no fault holds the numbers of its lines, and its strings
 pub holds-read : (bytes : List ℕ) → length bytes < 2 ^ 64 → fault_of bytes ≡ None →
     Holds (map (digits_value 10) (symbol_lines bytes)) (spellings_of bytes) bytes
-holds-read bytes few none = grind (arith, common_steps, fault-none bytes none, known-lines, at-blank, length-lines_of, length-drop, decimal, known-decimals, flat_map-lines_of, output-lines, append_assoc, lines_of-are_lines)
+holds-read bytes few none = grind (arith, common_steps, fault-none bytes none, known-lines, at-blank, length-lines_of, length-drop, decimal, known-decimals, flat_map-lines_of, output-lines, append_assoc, lines_of-are-lines)
 
 -- fewer than 2 ^ 64 bytes have no fault exactly if they hold some symbols and spellings
 pub faults-exact : (bytes : List ℕ) → length bytes < 2 ^ 64
