@@ -6,13 +6,13 @@ use Rattle.intaglio_packed.proofs.Names.{Records, hashes_of, record_room_of, str
 use Rattle.intaglio_packed.specs.PackedIndex.{room_with}
 
 -- an index stays over records that give up room
-pub gives_up : (index : RecordIndex) (old new : Records) → strings_of new ≡ strings_of old
+pub gives-up : (index : RecordIndex) (old new : Records) → strings_of new ≡ strings_of old
     → hashes_of new ≡ hashes_of old
     → new.most ≤ old.most
     → new.spare_bytes ≤ old.spare_bytes
     → IsOver old.list (record_room_of old) index
     → IsOver new.list (record_room_of new) index
-gives_up index old new strings hashes most spare is =
+gives-up index old new strings hashes most spare is =
     let list : new.list ≡ old.list = same_pairs new.list old.list hashes strings in
     let less : record_room_of new ≤ record_room_of old = rw list (omega (arith, most, spare)) in
     over_less new.list (record_room_of old) (record_room_of new) index

@@ -14,12 +14,12 @@ use Rattle.intaglio_packed.proofs.packed_index.RecordIndexIndexOfPacked.search.G
 use Rattle.intaglio_packed.proofs.packed_index.RecordIndexIndexOfPacked.search.Goals.{In-Some, In_default}
 
 -- the number of the next string, and those that are left behind it
-next_in : (g : Over) (c : In-Some g) →
+next-in : (g : Over) (c : In-Some g) →
     (rest : List ℕ) × IsLeft c.args.list.now.list c.args.hash c.next.new.self rest
     × IsSearching (map g.K.StringKind.key_of (strings_of c.args.list.now)) (g.Q.Keyed.key c.args.sought.now) 0
     c.loop-found.invariant.0 (c.in-Some.found.0 ∷ rest) c.args.work.now.events c.loop-found.work.events
     × (c.in-Some.found.0 < length (strings_of c.args.list.now))
-next_in g c =
+next-in g c =
     let xs = c.args.list.now.list in
     let at = c.loop-found.invariant in
     let given = c.in-Some.ensures.gives xs c.args.hash at.1 at.3 in (
@@ -50,7 +50,7 @@ met g c later is h by =
     let keys = map g.K.StringKind.key_of strings in
     let k = g.Q.Keyed.key c.args.sought.now in
     let at = c.loop-found.invariant in
-    let turn = next_in g c in
+    let turn = next-in g c in
     let seen = compared-as g.K.StringKind.key_of strings c.in-Some.found.0 k true _ later turn.3 is in
     let equal = equal-hashes h keys k c.args.list.now.list c.args.hash at.0 (by.stored
     ∙ sym (map-map h g.K.StringKind.key_of strings)) by.sought at.2 in
@@ -78,7 +78,7 @@ ended g c h by =
     (none_passed h keys k c.requires.distinct at.0 equal c.args.self.now.places) _ _ (rw none.0 at at.4)
 
 pub same_at-requires-clause-there : goal.same_at-requires-clause-there
-same_at-requires-clause-there g c = (next_in g (goal.at.same_at-requires-clause-there g c).In-Some).3
+same_at-requires-clause-there g c = (next-in g (goal.at.same_at-requires-clause-there g c).In-Some).3
 
 pub same_at-requires-clause-read : goal.same_at-requires-clause-read
 same_at-requires-clause-read g c =
@@ -102,7 +102,7 @@ returns-then-same_at-clause-cost g c =
 pub loop-found-preserved : goal.loop-found-preserved
 loop-found-preserved g c =
     let at = c.loop-found.invariant in
-    let turn = next_in g (goal.at.loop-found-preserved g c).In-Some in
+    let turn = next-in g (goal.at.loop-found-preserved g c).In-Some in
     let seen =
     compared-as g.K.StringKind.key_of (strings_of c.args.list.now) c.in-Some.found.0
     (g.Q.Keyed.key c.args.sought.now) _ _ _ turn.3 c.if-same_at.ensures in (
