@@ -2,7 +2,7 @@
 use Rattle.std.proofs.Common.{◌≡◌, ℕ, ◌-◌, ◌^◌, ◌≤◌, sym, refl, arith}
 use Rattle.intaglio_records.specs.declared.index.RecordIndex.{RecordIndex}
 use Rattle.intaglio_records.specs.Index.{IsOver}
-use Rattle.intaglio_packed.proofs.Names.{Records, hashes_of, record_room_of, strings_of, over_less, over_same, same_pairs}
+use Rattle.intaglio_packed.proofs.Names.{Records, hashes_of, record_room_of, strings_of, over-less, over-same, same-pairs}
 use Rattle.intaglio_packed.specs.PackedIndex.{room_with}
 
 -- an index stays over records that give up room
@@ -13,16 +13,16 @@ pub gives-up : (index : RecordIndex) (old new : Records) → strings_of new ≡ 
     → IsOver old.list (record_room_of old) index
     → IsOver new.list (record_room_of new) index
 gives-up index old new strings hashes most spare is =
-    let list : new.list ≡ old.list = same_pairs new.list old.list hashes strings in
+    let list : new.list ≡ old.list = same-pairs new.list old.list hashes strings in
     let less : record_room_of new ≤ record_room_of old = rw list (omega (arith, most, spare)) in
-    over_less new.list (record_room_of old) (record_room_of new) index
-    (over_same old.list new.list (record_room_of old) (record_room_of old) index (sym list) refl is) less
+    over-less new.list (record_room_of old) (record_room_of new) index
+    (over-same old.list new.list (record_room_of old) (record_room_of old) index (sym list) refl is) less
 
 -- an index stays over records whose strings and room for them are the same, with this room for bytes
 pub over-spare : (old new : Records) (index : RecordIndex) (spare : ℕ) → hashes_of new ≡ hashes_of old →
     strings_of new ≡ strings_of old → new.most ≡ old.most → spare ≡ old.spare_bytes
     → IsOver old.list (record_room_of old) index → IsOver new.list (room_with spare new) index
 over-spare old new index spare hashes strings most same over =
-    let list : new.list ≡ old.list = same_pairs new.list old.list hashes strings in
+    let list : new.list ≡ old.list = same-pairs new.list old.list hashes strings in
     let room : room_with spare new ≡ record_room_of old = rw list (omega (arith, most, same)) in
-    over_same old.list new.list (record_room_of old) (room_with spare new) index (sym list) (sym room) over
+    over-same old.list new.list (record_room_of old) (room_with spare new) index (sym list) (sym room) over

@@ -8,9 +8,9 @@ ends-within at all [] h = omega (arith, h)
 ends-within at all (e ∷ es) h = omega (arith, h.0, ends-within e all es h.1)
 
 -- there are as many strings as ends
-pub strings_length : (at : ℕ) (bytes es : List ℕ) → length (strings_from at bytes es) ≡ length es
-strings_length at bytes [] = refl
-strings_length at bytes (e ∷ es) = ap suc (strings_length e bytes es)
+pub strings-length : (at : ℕ) (bytes es : List ℕ) → length (strings_from at bytes es) ≡ length es
+strings-length at bytes [] = refl
+strings-length at bytes (e ∷ es) = ap suc (strings-length e bytes es)
 
 -- the strings after one is added
 pub strings-push : (at : ℕ) (bytes es more : List ℕ) → AreEnds at (length bytes) es →
@@ -94,4 +94,4 @@ concat-strings at bytes [] h = sym (drop_all at bytes (omega (arith, h)))
 concat-strings at bytes (e ∷ es) h = grind (arith, common_steps, concat-strings e bytes es h.1, take-append-drop (e - at) (drop at bytes), drop-drop (e - at) at bytes)
 
 -- what the proofs of calls of a buffer use
-pub ruleset buffer_rules = (common_steps, strings_length, ends-at, strings-at, byte_room-is, start-is, append_assoc, length-append, ends-push, strings-push, starts-within, length-take-le, ends-take, strings-take, take_all, sum-lengths, concat-strings)
+pub ruleset buffer_rules = (common_steps, strings-length, ends-at, strings-at, byte_room-is, start-is, append_assoc, length-append, ends-push, strings-push, starts-within, length-take-le, ends-take, strings-take, take_all, sum-lengths, concat-strings)

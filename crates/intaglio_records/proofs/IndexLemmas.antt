@@ -5,27 +5,27 @@ use Rattle.intaglio_records.specs.declared.index.RecordIndex.{RecordIndex}
 use Rattle.intaglio_records.specs.Index.{IsOver}
 
 -- an index stays over records that have less room
-pub over_less : (xs : List (ℕ × List ℕ)) (room less : ℕ) (index : RecordIndex) → IsOver xs room index →
+pub over-less : (xs : List (ℕ × List ℕ)) (room less : ℕ) (index : RecordIndex) → IsOver xs room index →
     less ≤ room
     → IsOver xs less index
-over_less xs room less index is l = grind (arith, common_steps)
+over-less xs room less index is l = grind (arith, common_steps)
 
 -- and over records with other room, if four bytes reach all of it
-pub over_short : (xs : List (ℕ × List ℕ)) (room other : ℕ) (index : RecordIndex) → IsOver xs room index
+pub over-short : (xs : List (ℕ × List ℕ)) (room other : ℕ) (index : RecordIndex) → IsOver xs room index
     → other ≤ 2 ^ 32 - 1 → IsOver xs other index
-over_short xs room other index is l = grind (arith, common_steps)
+over-short xs room other index is l = grind (arith, common_steps)
 
 -- the same, where the strings and the room are said in other words
-pub over_same : (xs ys : List (ℕ × List ℕ)) (room same : ℕ) (index : RecordIndex) → xs ≡ ys → room ≡ same
+pub over-same : (xs ys : List (ℕ × List ℕ)) (room same : ℕ) (index : RecordIndex) → xs ≡ ys → room ≡ same
     → IsOver xs room index
     → IsOver ys same index
-over_same xs ys room same index e f is = rw (← e, ← f) is
+over-same xs ys room same index e f is = rw (← e, ← f) is
 
 -- pairs are the same if their hashes and their strings are
-pub same_pairs : (xs ys : List (ℕ × List ℕ)) →
+pub same-pairs : (xs ys : List (ℕ × List ℕ)) →
     map (λ (p : ℕ × List ℕ). p.0) xs ≡ map (λ (p : ℕ × List ℕ). p.0) ys
     → map (λ (p : ℕ × List ℕ). p.1) xs ≡ map (λ (p : ℕ × List ℕ). p.1) ys → xs ≡ ys
-same_pairs [] [] e f = refl
-same_pairs [] (y ∷ ys) e f = absurd (omega (arith, ap length e))
-same_pairs (x ∷ xs) [] e f = absurd (omega (arith, ap length e))
-same_pairs (x ∷ xs) (y ∷ ys) e f = grind (arith, common_steps, ap (λ hs. get_or hs 0 0) e, ap (λ ss. get_or ss 0 []) f, same_pairs xs ys (ap (drop 1) e) (ap (drop 1) f))
+same-pairs [] [] e f = refl
+same-pairs [] (y ∷ ys) e f = absurd (omega (arith, ap length e))
+same-pairs (x ∷ xs) [] e f = absurd (omega (arith, ap length e))
+same-pairs (x ∷ xs) (y ∷ ys) e f = grind (arith, common_steps, ap (λ hs. get_or hs 0 0) e, ap (λ ss. get_or ss 0 []) f, same-pairs xs ys (ap (drop 1) e) (ap (drop 1) f))
