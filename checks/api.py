@@ -1,4 +1,4 @@
-#!/usr/bin/env python3
+#!/usr/bin/env -S python3 -B
 """Writes pages from the sources into out/doc: for each library its public calls, for all crates what is in each file (files.md),
 and for each promise of docs/PROMISES.md its mutants and tests (evidence.md).
 
@@ -12,30 +12,35 @@ Prints where the pages are, or with a NAME one of them: that of a library such a
 
 import re
 import sys
+import textwrap
 
-sys.dont_write_bytecode = True
 import arguments
-import evidence
-import interface
 import sources
 from sources import TOP, UNNAMED
 
 FOLDER = TOP / "out/doc"
-# Crates of tests and examples, which no caller needs, and `intaglio_c`, whose calls bindings/c/intaglio.h documents.
-LEFT_OUT = re.compile(r"intaglio_c|refused_allocations|bench|tests|example_\w+")
 # Links in documentation, as the names that lead somewhere.
 LINK = re.compile(r"\[(`[^`]+`|[^\]`]+)\](?:\([^)]*\))?")
+EVIDENCE = """# Evidence
+
+It has the mutants of each promise of docs/PROMISES.md, which are wrong edits of functions, and its tests. Of a mutant it
+says which clauses refuse it. `ensures` is a clause without a name, `invariant` that of a type, `requires` one of a
+function that is called, `loop` the invariant of a loop, and `bounds` the bounds of an index. A mutant that 'stays' isn't
+removed while its clause is there.
+"""
+FILES = "# Files\n\nEach file of sources with what its first lines say, from the lowest crate to the highest.\n"
 
 
-def wrapped(text, first="", rest=""):
-    return evidence.wrapped(LINK.sub(r"\1", text), first, rest)
+def wrapped(text, first="- ", rest="  "):
+    return textwrap.fill(text, 118, initial_indent=first, subsequent_indent=rest, break_long_words=False, break_on_hyphens=False)
 
 
 def paragraphs(lines):
     """The first paragraph of documentation, and those on errors. Examples are left out."""
     text = re.sub(r"(?ms)^```.*?^```$", "", "\n".join(re.sub(r"^\s*//[/!] ?", "", it) for it in lines))
     errors = re.findall(r"(?ms)^# Errors$(.*?)(?=^# |\Z)", text)
-    return [it for it in (re.split(r"\n\n|\A# |\n# ", text)[0], *(f"Errors: {it}" for it in errors)) if it.strip()]
+    found = (re.split(r"\n\n|\A# |\n# ", text)[0], *(f"Errors: {it}" for it in errors))
+    return [LINK.sub(r"\1", it) for it in found if it.strip()]
 
 
 def above(lines, at):
@@ -63,16 +68,15 @@ def of_file(every, calls, path):
     """The public types and calls of a file, in the order of the source."""
     text = sources.text_of(path)
     lines, found = text.splitlines(), []
-    for it in interface.TYPE.finditer(text):
+    for it in sources.DECLARED.finditer(text):
         at = text[: it.start()].count("\n")
-        found.append((at, f"`{interface.joined(it[2]).removeprefix('pub ')}`", above(lines, at)))
+        found.append((at, f"`{sources.joined(it[2])}`", above(lines, at)))
     for call in (it for it in calls if TOP / it.file == path):
-        owner, declared = interface.signature(call)
-        head = f"`{owner}`: " * bool(owner) + f"`{declared.removeprefix('pub ')}`"
-        found.append((call.line, head, [*above(lines, call.line - 1), *of_contract(every, call)]))
+        owner, declared = sources.signature(call)
+        said = [*above(lines, call.line - 1), *of_contract(every, call)]
+        found.append((call.line, f"`{owner}`: " * bool(owner) + f"`{declared}`", said))
     for _, head, said in sorted(found, key=lambda it: it[0]):
-        yield wrapped(head, "- ", "  ")
-        yield from (wrapped(it, "  ", "  ") for it in said)
+        yield from (wrapped(head), *(wrapped(it, "  ") for it in said))
 
 
 def about(path):
@@ -82,44 +86,46 @@ def about(path):
 
 def sources_of(crate):
     """The crate's root, and its other files."""
-    files = sorted((TOP / "crates" / crate / "src").glob("**/*.rt"))
-    return sorted(files, key=lambda it: it.name not in ("lib.rt", "main.rt") or it.parent.name != "src")
+    return sorted(sources.files_of(crate), key=lambda it: it.name not in ("lib.rt", "main.rt") or it.parent.name != "src")
 
 
-def page_of(every, crate):
-    """The page of a library."""
+def of_library(every, crate):
     calls = [it for it in every.functions if it.crate == crate and not it.is_test and every.is_public(it)]
     root = sources_of(crate)[0]
-    yield f"# `{crate}`\n\n{wrapped(about(root))}\n"
+    yield f"# `{crate}`\n\n{wrapped(about(root), '', '')}\n"
     for path in sources_of(crate):
         if items := [*of_file(every, calls, path)]:
-            name = "" if path == root else f"## {path.relative_to(root.parent)}\n\n{wrapped(about(path))}\n\n"
-            yield name + "\n".join(items) + "\n"
+            head = f"## {path.relative_to(root.parent)}\n\n{wrapped(about(path), '', '')}\n\n" * (path != root)
+            yield head + "\n".join(items) + "\n"
 
 
-def files():
-    """The page of all files: what is in each, crate by crate, as crates.txt has them."""
-    yield "# Files\n\nEach file of sources with what its first lines say, from the lowest crate to the highest.\n"
-    for crate in sources.rows_of_crates():
-        root, *others = sources_of(crate)
-        yield f"## `{crate}`\n\n{wrapped(about(root))}\n"
-        yield "\n".join(wrapped(f"`{it.relative_to(root.parent)}`: {about(it)}", "- ", "  ") for it in others) + "\n"
+def of_files(crate):
+    root, *others = sources_of(crate)
+    yield f"## `{crate}`\n\n{wrapped(about(root), '', '')}\n"
+    yield "\n".join(wrapped(f"`{it.relative_to(root.parent)}`: {about(it)}") for it in others) + "\n"
 
 
-def pages():
-    """The parts of each page by its name, and what is said of each promise."""
-    every = sources.Sources()
-    every_library = sorted(it.parents[1].name for it in TOP.glob("crates/*/src/lib.rt"))
-    promises = dict(evidence.pages(every))
-    first = {"files": files(), "evidence": [evidence.HEAD, *promises.values()]}
-    return first | {it: page_of(every, it) for it in every_library if not LEFT_OUT.fullmatch(it)}, promises
+def of_promise(every, promise):
+    edits = {name: it for name in promise.mutants if (it := sources.one_of(every.mutants, name))}
+    lines = [
+        f"`{name}` edits `{it.function}` of `{it.crate}`, and {', '.join(it.clauses)} refuses it: {it.promise}."
+        + " It stays." * (name in promise.kept)
+        for name, it in edits.items()
+    ]
+    lines += [f"test `{name}` in {it.file if (it := sources.one_of(every.tests, name)) else name}" for name in promise.tests]
+    return f"## {promise.promise}\n\n" + "\n".join(map(wrapped, lines)) + "\n"
 
 
 def main():
-    parser = arguments.parser(__doc__)
-    parser.add_argument("name", metavar="NAME", nargs="?")
-    name, (every, promises) = parser.parse_args().name, pages()
-    texts = {page: "\n".join(parts).rstrip() + "\n" for page, parts in every.items()}
+    name, every = arguments.parser(__doc__, name="?").parse_args().name, sources.Sources()
+    promises = {it.promise: of_promise(every, it) for it in sources.evidence()}
+    libraries = sorted(it.parents[1].name for it in TOP.glob("crates/*/src/lib.rt"))
+    pages = {
+        "files": [FILES, *(part for it in sources.rows_of_crates() for part in of_files(it))],
+        "evidence": [EVIDENCE, *promises.values()],
+        **{it: of_library(every, it) for it in libraries if not sources.NOT_FOR_CALLERS.fullmatch(it)},
+    }
+    texts = {page: "\n".join(parts).rstrip() + "\n" for page, parts in pages.items()}
     FOLDER.mkdir(parents=True, exist_ok=True)
     for page, text in texts.items():
         (FOLDER / f"{page}.md").write_text(text, encoding="utf-8")
@@ -131,5 +137,4 @@ def main():
         print(found, end="")
 
 
-if __name__ == "__main__":
-    main()
+main()

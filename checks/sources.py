@@ -1,6 +1,5 @@
-"""What the sources of the crates have: functions with their clauses, impls with their ghost members, definitions, tests, edits.
-
-It reads files as `rt fmt` lays them out, and nothing else.
+"""What the sources of the crates have: functions with their clauses, impls with their ghost members, definitions, tests, edits;
+and what the lists of this folder have. It reads files as `rt fmt` lays them out, and nothing else.
 """
 
 import collections
@@ -21,6 +20,11 @@ CLAUSE = re.compile(r"\s*(requires|ensures)\*?(?: (\w+))? \{.*")
 MEMBER = re.compile(r" {4}(?:pub )?ghost (?!use\b)(\w+)")
 DEFINED = re.compile(r"(?: *(?:(?:pub|opaque) +)*(?:abbrev|record|data|unfoldable) +(?:pub +)?|pub +)([^\s:(){},]+)")
 FIELD = re.compile(r" +(?:pub )?(\w+) : ")
+# What ends a function's signature, and a public type with its attributes.
+END = re.compile(r"(?m)^\s*(?:where|requires|ensures)\b|\s*//|\s*\{\s*\}?$|;\s*$")
+DECLARED = re.compile(r"(?m)^((?:#\[.*\]\n)*)pub ((?:struct|enum|trait|type|const) [^{;(]*)(\([^)]*\);|[{;])")
+# Crates of tests and examples, which no caller needs, and `intaglio_c`, whose calls bindings/c/intaglio.h documents.
+NOT_FOR_CALLERS = re.compile(r"intaglio_c|refused_allocations|bench|tests|example_\w+")
 
 
 @dataclass(frozen=True, eq=False)
@@ -41,10 +45,30 @@ class Function:
 # An edit, a mutant or a control: the function that it turns, the clauses by which it is refused, and the promise that it breaks.
 Edit = namedtuple("Edit", "crate kind name path function clauses promise beside file pairs")
 MUTANT, CONTROL = "mutant", "control"
+# What shows a promise, by evidence.txt: mutants and tests, and those of the mutants that stay as long as their clauses do.
+Evidence = namedtuple("Evidence", "promise mutants tests kept")
 
 
 def text_of(path):
     return path.read_text(encoding="utf-8")
+
+
+def paragraphs(name):
+    """The lines of a list in this folder, without comments, each with the indented ones that go on with it."""
+    text = re.sub(r"(?m)^#.*\n", "", text_of(TOP / "checks" / name))
+    return [*filter(None, re.sub(r"\n +", " ", text).split("\n"))]
+
+
+def evidence():
+    for promise, _, names in (it.partition(":") for it in paragraphs("evidence.txt")):
+        mutants, tests = map(str.split, names.partition(";")[::2])
+        yield Evidence(promise, [it.removesuffix("!") for it in mutants], tests, {it[:-1] for it in mutants if it.endswith("!")})
+
+
+def one_of(every, name):
+    """What CRATE/NAME or NAME is of these, or nothing if there are none or several."""
+    found = [it for it in every if name in (it.name, f"{it.crate}/{it.name}")]
+    return found[0] if len(found) == 1 else None
 
 
 def rows_of_crates():
@@ -58,29 +82,19 @@ def with_those_below(name, below):
     return {name}.union(*(with_those_below(it, below) for it in below.get(name, ()) if it in below))
 
 
-def named(text):
-    """The last name of a path or type, without its arguments."""
-    return re.sub(r"<.*|\s.*", "", re.sub(r"^&+('\w+ )?(mut |dyn )?", "", text.strip())).split("::")[-1]
-
-
 def owner_of(header):
-    """The type and the trait of an impl's header, or a trait's own name twice."""
-    if found := re.search(r"\btrait (\w+)", header):
+    """The type and the trait of an impl's header, or a trait's own name twice, all without paths and arguments."""
+    bare = re.split(r"\bwhere\b", header.replace("->", ""))[0]
+    while bare != (bare := re.sub(r"<[^<>]*>", "", bare)):
+        pass
+    if found := re.search(r"\btrait (\w+)", bare):
         return found[1], found[1]
-    rest, depth = re.sub(r"^.*?\bimpl\b", "", header, count=1).strip(), 0
-    for at, letter in enumerate(rest if rest.startswith("<") else ""):
-        depth += (letter == "<") - (letter == ">" and rest[at - 1] != "-")
-        if not depth:
-            rest = rest[at + 1 :].strip()
-            break
-    trait, _, owner = rest.partition(" for ")
-    owner, trait = (owner, trait) if owner else (trait, "")
-    return named(owner.partition(" where ")[0]), named(trait)
+    names = (re.sub(r"^&+('\w+ )?(mut |dyn )?", "", it.strip()) for it in bare.partition("impl")[2].split(" for ", 1)[::-1])
+    return [*(re.sub(r"\s.*", "", it).split("::")[-1] for it in names), ""][:2]
 
 
 def header_of(lines, at=0):
-    """The lines of the header of a function that begins at a line, each with the beginning of the clause that it belongs to, or
-    nothing."""
+    """The lines of the header of a function that begins at a line, each with the beginning of its clause, or nothing."""
     header: list[tuple[str, re.Match | None]] = []
     clause, depth = None, 0
     while True:
@@ -115,39 +129,42 @@ def with_ensures(text, names):
 @functools.lru_cache(maxsize=None)
 def functions_in(crate, path):
     """The functions of a file, the ghost members of its impls by owner and trait, and the types that it declares."""
-    lines = text_of(path).splitlines()
-    functions: list[Function] = []
+    lines, file, functions = text_of(path).splitlines(), str(path.relative_to(TOP)), []
     members: dict[tuple[str, str], dict[str, str]] = collections.defaultdict(dict)
     at, owner, trait = 0, "", ""
     while at < len(lines):
-        line = lines[at]
-        if OWNER.match(line):
-            header = line
-            while not re.search(r"[{;]\s*\}?$", header) and at + 1 < len(lines):
-                at += 1
-                header += " " + lines[at].strip()
-            owner, trait = owner_of(header)
-        elif line == "}":
+        end = at
+        if OWNER.match(lines[at]):
+            end = next(i for i in range(at, len(lines)) if re.search(r"[{;]\s*\}?$", lines[i]))
+            owner, trait = owner_of(" ".join(map(str.strip, lines[at : end + 1])))
+        elif lines[at] == "}":
             owner = trait = ""
-        elif found := MEMBER.match(line):
-            members[owner, trait][found[1]] = line
-        elif found := FN.match(line):
-            functions.append(function_at((crate, str(path.relative_to(TOP)), at + 1, owner, trait), lines, found))
-            at += functions[-1].text.count("\n")
-        at += 1
+        elif found := MEMBER.match(lines[at]):
+            members[owner, trait][found[1]] = lines[at]
+        elif found := FN.match(lines[at]):
+            header = header_of(lines, at)
+            rows = groupby(header, lambda row: row[1])
+            clauses = {name_of(it): "".join(f"{row}\n" for row, _ in of) for it, of in rows if it}
+            end = at + len(header) - 1
+            if lines[end].rstrip().endswith("{"):
+                end = next(i for i in range(end, len(lines)) if lines[i].rstrip() == found[1] + "}")
+            is_test = bool(re.search(r"#\[test\]\s*(#\[[^\n]*\]\s*)*$", "\n".join(lines[max(0, at - 4) : at])))
+            text = "\n".join(lines[at : end + 1])
+            functions.append(Function(crate, file, at + 1, owner, trait, found[2], clauses, is_test, text))
+        at = end + 1
     return functions, members, {it[1] for it in map(TYPE.match, lines) if it}
 
 
-def function_at(place: tuple[str, str, int, str, str], lines, found):
-    """The function whose first line is `found`, at a place: its crate, file and line, and the type and trait of its impl."""
-    at = place[2] - 1
-    header = header_of(lines, at)
-    clauses = {name_of(it): "".join(f"{row}\n" for row, _ in rows) for it, rows in groupby(header, lambda row: row[1]) if it}
-    end = at + len(header) - 1
-    if lines[end].rstrip().endswith("{"):
-        end = next(i for i in range(end, len(lines)) if lines[i].rstrip() == found[1] + "}")
-    is_test = bool(re.search(r"#\[test\]\s*(#\[[^\n]*\]\s*)*$", "\n".join(lines[max(0, at - 4) : at])))
-    return Function(*place, found[2], clauses, is_test, "\n".join(lines[at : end + 1]))
+def joined(text):
+    """A text on one line, without the commas before its closing brackets."""
+    text = re.sub(r"\s+", " ", text).strip()
+    return re.sub(r",? ([)>}])", r"\1", re.sub(r"([(<]) ", r"\1", text)) if "{" not in text else re.sub(r",? \}", " }", text)
+
+
+def signature(function):
+    """The type or the impl of a function, and its declaration, without `pub`."""
+    owner = function.owner if function.trait in ("", function.owner) else f"{function.trait} for {function.owner}"
+    return owner, joined(END.split(function.text, maxsplit=1)[0]).removeprefix("pub ")
 
 
 def definitions_in(path):
@@ -170,52 +187,36 @@ def files_of(crate):
     return sorted((TOP / "crates" / crate).glob("src/**/*.rt"))
 
 
-def functions_of(crate, name):
-    """The functions of a crate that have this name."""
-    return [it for file in files_of(crate) for it in functions_in(crate, file)[0] if it.name == name]
-
-
 def named_by(crate, path):
     """The functions of a crate that the path in a line `fn:` may name."""
     owner, name = ["", *path.split("::")][-2:]
-    return [it for it in functions_of(crate, name) if owner.startswith(it.owner)]
-
-
-def file_of(crate, function, pairs):
-    """The file of the function in which the texts of an edit stand, if there is one such."""
-    found = {it.file for it in named_by(crate, function) if all(old in it.text for old, _ in pairs)}
-    return found.pop().split("/", 2)[2] if len(found) == 1 else "src/lib.rt"
-
-
-def edit_of(crate, path, function, text):
-    """The edit of a function that a block of a file of mutants describes. A line `file:` has its file, if it can't be told."""
-
-    def line(word):
-        return (re.search(rf"^{word}: (.*)$", text, re.M) or ["", ""])[1]
-
-    kind, _, name = text.partition("\n")[0].partition(": ")
-    found = re.fullmatch(r"([\w, ]+): (.+)", line("promise"))
-    clauses = tuple(found[1].split(", ")) if found else ()
-    pairs = tuple(re.findall(r"^old: (.*)\nnew: ?(.*)$", text, re.M))
-    return Edit(crate, kind, name, f"{path.relative_to(TOP)}: {name}", function, clauses, found[2] if found else "",
-                tuple(line("beside").split()), line("file") or file_of(crate, function, pairs), pairs)
+    every = (it for file in files_of(crate) for it in functions_in(crate, file)[0])
+    return [it for it in every if it.name == name and owner.startswith(it.owner)]
 
 
 def edits_in(crate):
-    """A crate's mutants and controls: the blocks of its file of mutants. A line `fn:` is for the blocks behind it too."""
-    path = TOP / "crates" / crate / "mutants.txt"
-    text = re.sub(r"(?m)^#.*\n", "", text_of(path)) if path.is_file() else ""
-    function, edits = "", []
-    for block in re.split(r"\n{2,}", text.strip()) if path.is_file() else []:
+    """A crate's mutants and controls: the blocks of its file of mutants. A line `fn:` is for the blocks behind it too. A line
+    `file:` has the edit's file, if its texts don't stand in the function in one file alone."""
+    path, function, edits = TOP / "crates" / crate / "mutants.txt", "", []
+    text = re.sub(r"(?m)^#.*\n", "", text_of(path)).strip() if path.is_file() else ""
+    for block in filter(None, re.split(r"\n{2,}", text)):
         if found := re.match(r"fn: (.*)\n", block):
             function, block = found[1], block[found.end() :]
-        edits.append(edit_of(crate, path, function, block))
+        kind, _, name = block.partition("\n")[0].partition(": ")
+        lines = dict(re.findall(r"(?m)^(promise|beside|file): (.*)$", block))
+        promise = re.fullmatch(r"([\w, ]+): (.+)", lines.get("promise", ""))
+        pairs = tuple(re.findall(r"(?m)^old: (.*)\nnew: ?(.*)$", block))
+        files = {it.file for it in named_by(crate, function) if all(old in it.text for old, _ in pairs)}
+        file = lines.get("file") or (files.pop().split("/", 2)[2] if len(files) == 1 else "src/lib.rt")
+        of_promise = (tuple(promise[1].split(", ")), promise[2]) if promise else ((), "")
+        beside = tuple(lines.get("beside", "").split())
+        edits.append(Edit(crate, kind, name, f"{path.relative_to(TOP)}: {name}", function, *of_promise, beside, file, pairs))
     return edits
 
 
 def is_of_type(edit):
     """Whether an edit turns a type, which stands before all functions of its file, and no body."""
-    text = (TOP / "crates" / edit.crate / edit.file).read_text(encoding="utf-8")
+    text = text_of(TOP / "crates" / edit.crate / edit.file)
     return any(old in text and not re.search(r"\bfn ", text[: text.index(old) + len(old)]) for old, _ in edit.pairs)
 
 
@@ -224,28 +225,26 @@ class Sources:
 
     def __init__(self):
         self.functions: list[Function] = []
-        self.members: dict[tuple[str, str, str], dict[str, str]] = collections.defaultdict(dict)
-        self.types: set[str] = set()
-        self.definitions: dict[str, str] = {}
         self.edits: list[Edit] = []
+        self.definitions: dict[str, str] = {}
+        self.types: set[str] = set()
+        self.members: dict[tuple[str, str, str], dict[str, str]] = collections.defaultdict(dict)
         for folder in sorted((TOP / "crates").iterdir()):
-            for path in sorted(folder.glob("src/**/*.rt")):
+            for path in files_of(folder.name):
                 functions, members, types = functions_in(folder.name, path)
                 self.functions += functions
                 self.types |= types
                 for (owner, trait), own in members.items():
                     self.members[folder.name, owner, trait].update(own)
             for path in sorted(folder.glob("specs/**/*.antt")):
-                self.definitions.update(definitions_in(path))
+                self.definitions |= definitions_in(path)
             self.edits += edits_in(folder.name)
         self.mutants = [it for it in self.edits if it.kind == MUTANT]
-
-    def tests(self):
-        return [it for it in self.functions if it.is_test]
+        self.tests = [it for it in self.functions if it.is_test]
 
     def is_public(self, function):
-        """Whether callers of its crate can call a function: it stands in the root or in a public module of a
-        library, or it or its type is re-exported."""
+        """Whether callers of its crate can call a function: it stands in the root or in a public module of a library, or it or
+        its type is re-exported."""
         root = TOP / "crates" / function.crate / "src/lib.rt"
         is_method = function.owner and function.owner == function.trait
         if not root.is_file() or not (is_method or function.text.lstrip().startswith("pub ")):
@@ -259,11 +258,9 @@ class Sources:
     def clauses_of(self, function):
         """The clauses of a function: its own, or its trait's; and the members of its impl."""
         own = dict(function.clauses)
-        if function.trait and not own:
-            for it in self.functions:
-                if it.owner == it.trait == function.trait and it.name == function.name:
-                    own.update(it.clauses)
-        return {**own, **self.members.get((function.crate, function.owner, function.trait), {})}
+        for it in self.functions if function.trait and not own else ():
+            own |= it.clauses if it.owner == it.trait == function.trait and it.name == function.name else {}
+        return own | self.members.get((function.crate, function.owner, function.trait), {})
 
     def reached_from(self, text):
         """The names of the definitions that a text cites, and of those that they cite."""
