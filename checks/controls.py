@@ -6,7 +6,7 @@ cites in turn: types with their impls and ghost members, traits, constants, and 
 count, and neither do bodies of other functions. All that has a cited name counts, in the crate and in those below it, whether it
 is meant or not: so nothing is missed, and some controls are tried that needn't be.
 
-controls.txt has a line for each control that was accepted, with a checksum of all that.
+controls.txt has for each crate the checksums of all that, of those of its controls that were accepted.
 """
 
 import collections
@@ -14,13 +14,14 @@ import functools
 import hashlib
 import random
 import re
-from typing import NamedTuple
+import textwrap
 
 import sources
 import toolchain
 from sources import TOP
 
 TABLE = TOP / "checks/controls.txt"
+HEAD = "# The checksums of the controls of each crate that were accepted, by all that they rest on: `checks/mutants` writes them."
 # A comment, or else a word, a sign or a text in quotes.
 TOKEN = re.compile(r'//.*|(?<!\S)--.*|"(?:\\.|[^"\\])*"|\'(?:\\.|[^\'\\])\'|\w+(?:-[^\W\d]\w*)*|\S')
 # What a file takes from others: a path, and names in it. What a path has before the types is none.
@@ -34,14 +35,12 @@ ITEM = re.compile(r"(?m)^(?=#|(?:pub|impl|struct|enum|trait|type|const|static|un
 ATTRIBUTES = re.compile(r"(?m)^(?:#\[(?:[^][]|\[[^]]*\])*\]\s*)+")
 NAMED = re.compile(r"(?:pub(?:\(\w+\))? )?(?:(?:struct|enum|trait|type|const|static) |macro_rules! )(\w+)")
 CONSTANT = re.compile(r" *(?:pub(?:\(\w+\))? )?const fn")
+# What a part of a file says: a checksum of it, its words, and those that may name what isn't its own.
+Statement = collections.namedtuple("Statement", "sum words names")
 
 
-class Statement(NamedTuple):
-    """What a part of a file says: a checksum of it, its words, and those that may name what isn't its own."""
-
-    sum: str
-    words: frozenset[str]
-    names: frozenset[str]
+def sum_of(said, length=64):
+    return hashlib.sha256(repr(said).encode()).hexdigest()[:length]
 
 
 @functools.lru_cache(maxsize=None)
@@ -59,12 +58,9 @@ def stated(text, whole, own):
     said = [it for it, after in zip(found, [*found[1:], ""]) if it != "," or after not in ")]}"]
     words = frozenset(said)
     taken = [it for it in uses(whole) if it[0] in words]
-    names = {it for before, it in zip(["", *said], said) if it in own or before == ":"}
-    return Statement(
-        hashlib.sha256(repr([said, sorted(it[1] for it in taken)]).encode()).hexdigest(),
-        words,
-        frozenset(names).union(*(it[2] for it in taken), (it[0] for it in taken)),
-    )
+    names = frozenset(it for before, it in zip(["", *said], said) if it in own or before == ":")
+    paths = sorted(it[1] for it in taken)
+    return Statement(sum_of([said, paths]), words, names.union(*(it[2] for it in taken), (it[0] for it in taken)))
 
 
 @functools.lru_cache(maxsize=None)
@@ -100,18 +96,18 @@ def specs(path):
     return [(it, stated(own[it] + given, whole, own)) for it in own if "." not in it and it not in ("use", "mod")]
 
 
-def with_lemmas(crate, texts):
-    """These texts of a crate, and those of the files of lemmas that they reach (a file Names only passes names on)."""
-    texts, found = [*texts], {TOP}
-    for text in texts:
+def lemmas(crate, texts):
+    """The texts of the files of lemmas that texts of a crate reach (a file Names only passes names on)."""
+    left, found = [*texts], {}
+    for text in left:
         for other, places, _, own in LEMMAS.findall(text):
             path = TOP / "crates" / (other or crate) / "proofs"
             for part in (places or own).split("."):
                 file, path = path / f"{part}.antt", path / part
                 if part != "Names" and file not in found and file.is_file():
-                    found.add(file)
-                    texts.append(sources.text_of(file))
-    return texts
+                    found[file] = sources.text_of(file)
+                    left.append(found[file])
+    return found.values()
 
 
 class Index:
@@ -157,49 +153,45 @@ class Index:
 
     def sum_of(self, edit):
         """The checksum of all that an edit rests on."""
-        folder, path = TOP / "crates" / edit.crate, edit.function.split("::")
+        folder = TOP / "crates" / edit.crate
         whole, own = sources.text_of(folder / edit.file), source(edit.crate, folder / edit.file)[2]
         found = [it for it in sources.named_by(edit.crate, edit.function) if it.file == f"crates/{edit.crate}/{edit.file}"]
         turned = [it.text for it in found] if found and not sources.is_of_type(edit) else [whole]
         edited = [edit.function, *sum(edit.pairs, ()), *(f":{it.owner} :{it.trait}" for it in found), *TACTIC.findall(whole)]
         texts = [" ".join(edited), *turned]
-        proof = [sources.text_of(it) for it in sorted((folder / "proofs").joinpath(*path).glob("*.antt"))]
-        proofs = {stated(it, it, ()) for it in with_lemmas(edit.crate, [*texts, *proof])[len(texts) :]}
+        proof = [sources.text_of(it) for it in sorted(folder.joinpath("proofs", *edit.function.split("::")).glob("*.antt"))]
         said = {stated(it, whole, own) for it in texts}
         words = {word for it in said for word in it.words}
-        macros = {it for word in words & self.items.keys() for it in self.items[word] if "macro_rules" in it.words}
-        words |= {word for it in macros for word in it.words}
-        reached, said = self.reached(said | proofs)
+        cited = {said for word in words & self.items.keys() for said in self.items[word]}
+        words.update(*(it.words for it in cited if "macro_rules" in it.words))
+        reached, said = self.reached(said | {stated(it, it, ()) for it in (*proof, *lemmas(edit.crate, [*texts, *proof]))})
         while more := self.called(words, reached) - said:
             reached, said = self.reached(said | more)
-        return hashlib.sha256(repr([self.kit, *sorted(it.sum for it in said)]).encode()).hexdigest()[:16]
+        return sum_of([self.kit, *sorted(it.sum for it in said)], 16)
 
 
 class Accepted:
-    """The controls that controls.txt has, which were accepted. One of ten is tried again, by a seed."""
+    """The controls that were accepted, by the checksums in controls.txt. One of ten is tried again, by a seed."""
 
     def __init__(self, is_anew, seed):
-        lines = sources.text_of(TABLE).splitlines() if TABLE.is_file() else []
-        self.sums, self.is_anew, self.seed = dict(it.split() for it in lines), is_anew, seed
-        self.now: dict[str, str] = {}
-        self.again: list[str] = []
+        rows = (it.partition(":") for it in (sources.paragraphs(TABLE.name) if TABLE.is_file() else ()))
+        self.sums = {crate: sums.split() for crate, _, sums in rows}
+        self.is_anew, self.seed, self.now, self.again = is_anew, seed, {}, []
 
     def left_out(self, crate, edits):
         """Those of a crate's edits that needn't be tried."""
-        index, edits = Index(crate), {name_of(it): it for it in edits if it.kind == sources.CONTROL}
-        self.now |= {name: index.sum_of(it) for name, it in edits.items()}
-        same = [name for name in edits if not self.is_anew and self.now[name] == self.sums.get(name)]
-        again = [name for name in same if random.Random(f"{self.seed} {name}").random() < 0.1]
-        self.again += again
-        return [edits[name] for name in same if name not in again]
+        index, known = Index(crate), () if self.is_anew else self.sums.get(crate.name, ())
+        now = {it: index.sum_of(it) for it in edits if it.kind == sources.CONTROL}
+        same = [it for it in now if now[it] in known]
+        again = [it for it in same if random.Random(f"{self.seed} {it.crate}/{it.name}").random() < 0.1]
+        self.now |= now
+        self.again += (f"{it.crate}/{it.name}" for it in again)
+        return [it for it in same if it not in again]
 
-    def write(self, edits, accepted):
-        """Writes controls.txt, now that of these edits these were accepted. What was refused, and what isn't there, goes."""
-        there = {name_of(it) for folder in (TOP / "crates").iterdir() for it in sources.edits_in(folder.name)}
-        sums = {name: it for name, it in self.sums.items() if name in there - {*map(name_of, edits)}}
-        sums |= {name_of(it): self.now[name_of(it)] for it in accepted if it.kind == sources.CONTROL}
-        TABLE.write_text("".join(f"{name} {sums[name]}\n" for name in sorted(sums)), encoding="utf-8")
-
-
-def name_of(edit):
-    return f"{edit.crate}/{edit.name}"
+    def write(self, crates, accepted):
+        """Writes controls.txt, now that of these crates' edits these were accepted. What was refused, or isn't there, goes."""
+        self.sums |= {crate: sorted(self.now[it] for it in accepted if it in self.now and it.crate == crate) for crate in crates}
+        there = (it for it in sorted(self.sums) if self.sums[it] and (TOP / "crates" / it).is_dir())
+        rows = (f"{crate}: {' '.join(self.sums[crate])}" for crate in there)
+        text = "\n".join([HEAD, *(textwrap.fill(it, 130, subsequent_indent="  ") for it in rows), ""])
+        TABLE.write_text(text, encoding="utf-8")
