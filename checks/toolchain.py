@@ -9,7 +9,6 @@ import importlib.util
 import os
 import re
 import shutil
-import statistics
 import subprocess
 import sys
 import tempfile
@@ -17,12 +16,10 @@ from concurrent.futures import ThreadPoolExecutor
 from pathlib import Path
 from typing import Any
 
-sys.dont_write_bytecode = True
 TOP = Path(__file__).resolve().parent.parent
 VERSION = "rattle-kit-13f logic dac8208d650f15bf"
 # The variable of the environment that says to a check that others run beside it.
 BESIDE = "INTAGLIO_BESIDE"
-SECONDS = TOP / "checks/seconds.txt"
 # How the names of the folders begin in which edits are tried.
 SCRATCH = "mutants-"
 # What `fmt --check` says of a file.
@@ -56,6 +53,11 @@ RESTING = re.compile(r"declarations? that depends? on `([^`]+)`, which was rejec
 BROKEN_NAME = re.compile(r"has no field|is not in scope|has no `|was not admitted")
 # The answer by which a function is spoilt.
 SPOILT = re.compile(r": error: `spoilt`: ")
+# What provers hold of the memory that `rt` plans for them: what each counts as its own, and its share of what several read. (For
+# each further job `rt` plans .6 more.)
+HELD_OF_NEED = 0.5
+# How `rt` names the task of proving a crate.
+PROOF = "proof"
 # The locks on crates that are held until this process ends.
 HELD: list[Any] = []
 
@@ -80,17 +82,15 @@ def load():
     loader.exec_module(module)
     module.Crate.cuts_libraries = True
     module.rtlib.Crate = module.Crate
-    module.rtlib.VERDICT = over_kept(module.rtlib.VERDICT)
+    # (a verdict's last line may end in KEPT_WORK, as it does over a library that `rt lib` made)
+    verdict = module.rtlib.VERDICT
+    if not verdict.pattern.endswith(ENDS):
+        sys.exit("checks/toolchain.py: the pattern of rt's last line doesn't end as it did")
+    pattern = verdict.pattern.removesuffix(ENDS) + f"(?: {KEPT_WORK})?{ENDS}"
+    module.rtlib.VERDICT = re.compile(pattern, verdict.flags)
     # Whatever it starts ends with this process. (The first call sets a signal's handler, which the main thread alone may.)
     module.rtlib.guarded()
     return module
-
-
-def over_kept(verdict):
-    """The pattern of a verdict's last line, where that may end in KEPT_WORK, as it does over a library that `rt lib` made."""
-    if not verdict.pattern.endswith(ENDS):
-        sys.exit("checks/toolchain.py: the pattern of rt's last line doesn't end as it did")
-    return re.compile(verdict.pattern.removesuffix(ENDS) + f"(?: {KEPT_WORK})?{ENDS}", verdict.flags)
 
 
 def crates(top=TOP):
@@ -101,11 +101,10 @@ def crates(top=TOP):
 def wrong_layouts():
     """Of each file that isn't in the layout of `rt fmt`, that it isn't. (`rt ci` says so only when it comes to the crate, after
     those below it.)"""
-    rt = load().rtlib
 
     def files_of(crate):
         with tempfile.TemporaryFile("w+", errors="replace") as wrote:
-            rt.fmt(crate.folder, "--check", wrote, diff=subprocess.DEVNULL)
+            load().rtlib.fmt(crate.folder, "--check", wrote, diff=subprocess.DEVNULL)
             wrote.seek(0)
             return NOT_LAID_OUT.findall(wrote.read())
 
@@ -122,22 +121,24 @@ def is_built(library):
         return False
     if stamp.is_file():
         return library.is_built()
-    newest = max(os.path.getmtime(file) for file in load().rtlib.files_of(library.folder))
     # (what `rt ci` builds has no stamp, and can be used over its own libraries alone; a file that it kept from an earlier run is
     # older than its folder here)
     is_of_ci = not any(Path(it.folder, "out/rlib/stamp").is_file() for it in library.below())
-    return newest <= made.stat().st_mtime and is_of_ci
+    return newest_of([library]) <= made.stat().st_mtime and is_of_ci
+
+
+def newest_of(crates):
+    return max(os.path.getmtime(file) for it in crates for file in load().rtlib.files_of(it.folder))
 
 
 def build_missing(libraries):
     """Builds those of these libraries, lowest first, that aren't there or are of other sources: `rt ci` gives back what was built
     before it."""
-    for it in libraries:
-        if not is_built(it):
-            print(f"{it.name} isn't built from the sources as they are: rt lib builds it", flush=True)
-            ran = subprocess.run(["rt", "lib"], cwd=it.folder, stdin=subprocess.DEVNULL, capture_output=True, text=True)
-            if ran.returncode:
-                sys.exit(f"{it.name} isn't proved:\n{without_good_news(ran.stdout + ran.stderr)[-3000:]}")
+    for it in (it for it in libraries if not is_built(it)):
+        print(f"{it.name} isn't built from the sources as they are: rt lib builds it", flush=True)
+        ran = subprocess.run(["rt", "lib"], cwd=it.folder, stdin=subprocess.DEVNULL, capture_output=True, text=True)
+        if ran.returncode:
+            sys.exit(f"{it.name} isn't proved:\n{without_good_news(ran.stdout + ran.stderr)[-3000:]}")
 
 
 def processors():
@@ -169,14 +170,18 @@ def checked(crate, texts, functions, are_spoilt, kept, stubs):
     rt, only = load(), [word for function in functions for word in ("--only", function)]
     words = [rt.rtlib.RATTLE, "check", *crate.words(["--jobs", "1", *only], keeps=False), "--incremental", kept]
     with tempfile.TemporaryDirectory(prefix=SCRATCH) as room:
-        for part in rt.rtlib.PARTS:
-            if Path(crate.folder, part).is_dir():
-                shutil.copytree(Path(crate.folder, part), Path(room, part))
+        for part in (it for it in rt.rtlib.PARTS if Path(crate.folder, it).is_dir()):
+            shutil.copytree(Path(crate.folder, part), Path(room, part))
         for path, text in texts.items():
             Path(room, path).write_text(text, encoding="utf-8")
         proofs = Path(room, "proofs")
         for function, whose in functions.items():
-            take_proof(proofs, function, whose)
+            own = proofs.joinpath(*whose.split("::"))
+            if function != whose and own.is_dir():
+                copy = shutil.copytree(own, proofs.joinpath(*function.split("::")))
+                old, new = (f".{it.replace('::', '.')}." for it in (whose, function))
+                for path in copy.glob("*.antt"):
+                    path.write_text(path.read_text(encoding="utf-8").replace(old, new), encoding="utf-8")
         if stubs:
             drop_proofs(proofs, *({proofs.joinpath(*it.split("::")) for it in them} for them in (functions, stubs)))
         for function in functions:
@@ -190,16 +195,6 @@ def is_all_spoilt(words, lines):
     """Whether the prover says nothing of a spoilt function but that it isn't proved, that it calls others that aren't, and that
     the one answer can't be read."""
     return bool(NOT_PROVED.match(words) and lines and all(map(SPOILT.search, lines)))
-
-
-def take_proof(proofs, function, whose):
-    """Gives a copy of a function a copy of that one's proof."""
-    own = proofs.joinpath(*whose.split("::"))
-    if function != whose and own.is_dir():
-        copy = Path(shutil.copytree(own, proofs.joinpath(*function.split("::"))))
-        for path in copy.glob("*.antt"):
-            text = path.read_text(encoding="utf-8")
-            path.write_text(text.replace(f".{whose.replace('::', '.')}.", f".{function.replace('::', '.')}."), encoding="utf-8")
 
 
 def drop_proofs(proofs, but, stubs):
@@ -255,8 +250,7 @@ class Verdicts:
 
     def known(self, crate, edit):
         """What was said of an edit, as it was read, in an earlier run, or nothing."""
-        found = self.kept.tried(self.name(crate, edit, self.is_beside_ci))
-        return found[1] if found else None
+        return (self.kept.tried(self.name(crate, edit, self.is_beside_ci)) or (None, None))[1]
 
     def keep(self, crate, edit, said):
         """Keeps what was said of it, unless a file of the crate or of those below it was touched since this run began."""
@@ -267,17 +261,16 @@ class Verdicts:
 
 def crate_above(room, name):
     """A crate in a scratch folder that lists every library of this repository, and of the kit, that crates.txt names."""
-    rt, below = load(), [it for it in crates() if it.makes_rlib()]
+    every = crates()
+    below = [it for it in every if it.makes_rlib()]
     build_missing(below)
-    rlibs = {it.name: it.rlib for it in below}
-    of_kit = {dependency for it in crates() for dependency in it.of_kit if dependency != "std"}
     rows = {it.name: [*(dep.name for dep in it.deps), *(dep for dep in it.of_kit if dep != "std")] for it in below}
-    rows[name] = [*rlibs, *sorted(of_kit)]
+    rows[name] = [*rows, *sorted({dep for it in every for dep in it.of_kit if dep != "std"})]
     for row in rows:
         os.makedirs(f"{room}/crates/{row}/src")
     os.makedirs(f"{room}/crates/{name}/out")
     Path(room, "crates.txt").write_text("".join(f"{row}: {' '.join(rows[row])}\n" for row in rows), encoding="utf-8")
-    crate = next(it for it in rt.rtlib.crates_below(room) if it.name == name)
+    crate, rlibs = next(it for it in crates(room) if it.name == name), {it.name: it.rlib for it in below}
     for it in crate.below():
         it.rlib = rlibs[it.name]
     return crate
@@ -294,25 +287,22 @@ def heard(crate, call):
         return status, crate.out.read()
 
 
-def built_tests(crate):
-    """The status of proving and building the crate's tests, and what was printed."""
-    return heard(crate, lambda: crate.ci(jobs(), True))
-
-
-def ran_tests(crate):
-    """The status of a run of the tests that were built, and what they printed."""
+def tested(crate):
+    """Whether the crate's tests are proved and built, and the status of that, or else of their run, and what it printed."""
+    status, said = heard(crate, lambda: crate.ci(jobs(), True))
+    if status:
+        return False, status, said
     command = [load().rtlib.RUNNER, "--seconds", "60", f"{crate.folder}/out/{crate.name}_tests"]
     ran = subprocess.run(command, stdin=subprocess.DEVNULL, stdout=subprocess.PIPE, stderr=subprocess.STDOUT, errors="replace")
-    return ran.returncode, ran.stdout
+    return True, ran.returncode, ran.stdout
 
 
 def standing_on(names):
-    """The crates of these names and those that they stand on, lowest first."""
+    """The crates of these names and those that they stand on, lowest first. No other `rt` works in them from now on."""
     found, every = [], {it.name: it for it in crates()}
     for name in names:
         crate = every.get(name) or sys.exit(f"crates.txt lists no {name}")
         found += [it for it in [*crate.below(), crate] if it not in found]
-    # No other rt works in them until this process ends.
     HELD.append(load().rtlib.lock(found))
     return found
 
@@ -347,10 +337,9 @@ def proved(crate, jobs):
 
 def built_static(name):
     """What proving and building a static library, over the libraries that `rt ci` leaves, printed where it failed, or nothing."""
-    rt, crate = load(), next(it for it in crates() if it.name == name)
+    crate = next(it for it in crates() if it.name == name)
     made = Path(crate.folder, f"out/lib{name}.a")
-    newest = max(os.path.getmtime(file) for it in [*crate.below(), crate] for file in rt.rtlib.files_of(it.folder))
-    if made.is_file() and newest <= made.stat().st_mtime:
+    if made.is_file() and newest_of([*crate.below(), crate]) <= made.stat().st_mtime:
         return ""
     build_missing(crate.below())
     made.parent.mkdir(exist_ok=True)
@@ -360,12 +349,11 @@ def built_static(name):
 
 def copied_proofs(repository, names):
     """Copies what `rt lib` made of these crates to a repository that has them too, lowest first, where it is of the same sources,
-    of the crates below it too, and of this version of `rt`. Returns the names of those that are proved there now."""
+    of the crates below it too, and of this version of `rt`. Returns the names of those that are proved there now. No other `rt`
+    works in these crates until this process ends."""
     here, there = ({it.name: it for it in crates(top)} for top in (TOP, repository))
-    # No other rt works in them until this process ends.
-    HELD.append(load().rtlib.lock([*(here[it] for it in names), *(there[it] for it in names)]))
-    for name in names:
-        mine, theirs = here[name], there[name]
+    HELD.append(load().rtlib.lock([of[it] for of in (here, there) for it in names]))
+    for mine, theirs in ((here[it], there[it]) for it in names):
         if mine.is_built() and not theirs.is_built() and mine.stamp() == theirs.stamp():
             to, whole = Path(theirs.folder, "out/rlib"), Path(theirs.folder, "out/copied")
             shutil.rmtree(whole, ignore_errors=True)
@@ -380,53 +368,9 @@ def without_good_news(said):
     return re.sub(r"(?m)^(\w+ \S+: proved$|fn \S+: proved|statements |logic /|rt: chose ).*\n", "", said)
 
 
-@functools.lru_cache(maxsize=None)
-def seconds_of(crate):
-    """About how many seconds of a processor the crate's proof takes by one job: for each of its functions, without its tests, as
-    many as SECONDS has for the crate. One that wasn't measured is like the others."""
-    rows = (line.split() for line in SECONDS.read_text(encoding="utf-8").splitlines() if not line.startswith("#"))
-    known = {name: float(seconds) for name, seconds in rows}
-    files = (Path(it) for it in load().rtlib.files_of(crate.folder) if it.endswith(".rt"))
-    count = sum(len(re.findall(rb"\bfn \w", it.read_bytes())) for it in files if not {"tests", "tests.rt"} & {*it.parts})
-    return round(count * known.get(crate.name, statistics.median(known.values())))
-
-
-def chains_through(crates):
-    """How long the longest chain through each crate is, in seconds, in which each waits for the one before it. The crates come
-    lowest first."""
-    below: dict[str, int] = {}
-    behind: dict[str, int] = {}
-    for crate in crates:
-        below[crate.name] = seconds_of(crate) + max((below.get(it.name, 0) for it in crate.below()), default=0)
-    for crate in reversed(crates):
-        above = [it for it in crates if crate in it.below()]
-        behind[crate.name] = max((seconds_of(it) + behind[it.name] for it in above), default=0)
-    return {it.name: below[it.name] + behind[it.name] for it in crates}
-
-
-# A crate that one job proves in this many seconds is proved as soon by one as by several, which each read all libraries.
-FEW = 60
-# The share of the longest chain from which on a chain would soon be the longest, if its crates had one job each.
-NEARLY = 0.88
-# What provers hold of the memory that `rt` plans for them: what each counts as its own, and its share of what several read. (For
-# each further job `rt` plans .6 more.)
-HELD_OF_NEED = 0.5
-
-
-def in_lanes(crates, prove):
-    """Proves these crates side by side, by `prove` of a crate and its jobs, each once those of them below it are proved, and
-    returns whether all are. Those of the longest chain have a job for each processor, since all waits for them, those of a chain
-    nearly as long two, and small ones one."""
-    rt, through, most = load(), chains_through(crates), min(4, processors())
-    longest = max(through.values(), default=0)
-
-    def task(crate):
-        waits, length = [(it.name, "proof") for it in crate.below() if it.name in through], through[crate.name]
-        least = 1 if length < NEARLY * longest else most if length == longest else min(2, most)
-
-        def call(given, jobs):
-            return all(given[it] for it in waits) and prove(crate, 1 if seconds_of(crate) <= FEW else max(jobs, least))
-
-        return waits, seconds_of(crate), HELD_OF_NEED * rt.need(crate), call
-
-    return all(rt.in_lanes({(it.name, "proof"): task(it) for it in crates}).values())
+def in_lanes(tasks):
+    """Does tasks side by side, as memory and processors allow, and returns whether all are done: each has its crate, the crates
+    for which it waits with PROOF, its seconds, and a call that is given what was done of all, and jobs."""
+    rt = load()
+    every = {(it.name, PROOF): (waits, seconds, HELD_OF_NEED * rt.need(it), call) for it, waits, seconds, call in tasks}
+    return all(rt.in_lanes(every).values())
