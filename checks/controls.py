@@ -52,8 +52,7 @@ def uses(whole):
 
 
 def stated(text, whole, own):
-    """What a text of a file says, with the paths of those of its names that the file takes from others. The file's own names are
-    given. Commas before a closing bracket are layout."""
+    """What a text of a file says, with the paths of what it takes from others. Commas before a closing bracket are layout."""
     found = [it for it in TOKEN.findall(text) if not it.startswith(("//", "--"))]
     said = [it for it, after in zip(found, [*found[1:], ""]) if it != "," or after not in ")]}"]
     words = frozenset(said)
@@ -111,8 +110,7 @@ def lemmas(crate, texts):
 
 
 class Index:
-    """What a crate and those below it state: functions with their headers and items by their names, and impls with the names on
-    which they depend."""
+    """What a crate and those below it state: functions and items by their names, impls with the names on which they depend."""
 
     def __init__(self, crate):
         self.kit, self.heads, self.items = toolchain.version(), collections.defaultdict(set), collections.defaultdict(set)

@@ -3,10 +3,10 @@ and what the lists of this folder have. It reads files as `rt fmt` lays them out
 """
 
 import collections
+import dataclasses
 import functools
 import re
 from collections import namedtuple
-from dataclasses import dataclass
 from itertools import groupby
 from pathlib import Path
 
@@ -27,21 +27,9 @@ DECLARED = re.compile(r"(?m)^((?:#\[.*\]\n)*)pub ((?:struct|enum|trait|type|cons
 NOT_FOR_CALLERS = re.compile(r"intaglio_c|refused_allocations|bench|tests|example_\w+")
 
 
-@dataclass(frozen=True, eq=False)
-class Function:
-    """A function: where it is, the impl or trait that it stands in, and its clauses by their names."""
-
-    crate: str
-    file: str
-    line: int
-    owner: str
-    trait: str
-    name: str
-    clauses: dict[str, str]
-    is_test: bool
-    text: str
-
-
+# A function: where it is, the impl or trait that it stands in, its clauses by their names, and whether it is a test.
+OF_FUNCTION = ("crate", "file", "line", "owner", "trait", "name", "clauses", "is_test", "text")
+Function = dataclasses.make_dataclass("Function", OF_FUNCTION, frozen=True, eq=False)
 # An edit, a mutant or a control: the function that it turns, the clauses by which it is refused, and the promise that it breaks.
 Edit = namedtuple("Edit", "crate kind name path function clauses promise beside file pairs")
 MUTANT, CONTROL = "mutant", "control"
@@ -94,29 +82,25 @@ def owner_of(header):
 
 
 def header_of(lines, at=0):
-    """The lines of the header of a function that begins at a line, each with the beginning of its clause, or nothing."""
-    header: list[tuple[str, re.Match | None]] = []
+    """The lines of the header of a function that begins at a line, each with the word and the name of its clause, or nothing."""
+    header: list[tuple[str, tuple[str, str] | None]] = []
     clause, depth = None, 0
     while True:
         row = lines[at + len(header)].rstrip()
-        clause = clause if depth else CLAUSE.fullmatch(row)
+        found = None if depth else CLAUSE.fullmatch(row)
+        clause = clause if depth else found and (found[1], found[2] or found[1])
         header.append((row, clause))
         depth += row.count("{") - row.count("}") if clause else 0
         if not depth and (row.endswith(";") or not clause and row.endswith(("{", "{}"))):
             return header
 
 
-def name_of(clause):
-    return clause[2] or (UNNAMED if clause[1] == "ensures" else clause[1])
-
-
 def with_ensures(text, names):
-    """The text of a function with those of its `ensures` alone that have one of these names. The prover names goals by their
-    clauses if there are several: so the shortest other one stays with a single one, and all stay if one has no name or there is
-    one alone."""
+    """The text of a function with those of its `ensures` alone that have one of these names, and the shortest other one if one
+    is left, since the prover names goals by their clauses only if there are several: all, if one has no name or there is one."""
     lines = text.split("\n")
     head = next(i for i, it in enumerate(lines) if FN.match(it))
-    header = [(row, name_of(it) if it and it[0].split()[0] == "ensures" else None) for row, it in header_of(lines, head)]
+    header = [(row, clause[1] if clause and clause[0] == "ensures" else None) for row, clause in header_of(lines, head)]
     ensured = collections.Counter(name for row, name in header for _ in range(len(row) + 1) if name)
     stay = {None, *names}
     if UNNAMED in ensured or len(ensured) == 1:
@@ -144,7 +128,7 @@ def functions_in(crate, path):
         elif found := FN.match(lines[at]):
             header = header_of(lines, at)
             rows = groupby(header, lambda row: row[1])
-            clauses = {name_of(it): "".join(f"{row}\n" for row, _ in of) for it, of in rows if it}
+            clauses = {it[1]: "".join(f"{row}\n" for row, _ in of) for it, of in rows if it}
             end = at + len(header) - 1
             if lines[end].rstrip().endswith("{"):
                 end = next(i for i in range(end, len(lines)) if lines[i].rstrip() == found[1] + "}")
@@ -195,8 +179,7 @@ def named_by(crate, path):
 
 
 def edits_in(crate):
-    """A crate's mutants and controls: the blocks of its file of mutants. A line `fn:` is for the blocks behind it too. A line
-    `file:` has the edit's file, if its texts don't stand in the function in one file alone."""
+    """A crate's mutants and controls, as CONTRIBUTING.md says how they are written. A line `fn:` is for later blocks too."""
     path, function, edits = TOP / "crates" / crate / "mutants.txt", "", []
     text = re.sub(r"(?m)^#.*\n", "", text_of(path)).strip() if path.is_file() else ""
     for block in filter(None, re.split(r"\n{2,}", text)):
@@ -224,10 +207,7 @@ class Sources:
     """All of them."""
 
     def __init__(self):
-        self.functions: list[Function] = []
-        self.edits: list[Edit] = []
-        self.definitions: dict[str, str] = {}
-        self.types: set[str] = set()
+        self.functions, self.edits, self.definitions, self.types = [], [], dict[str, str](), set[str]()
         self.members: dict[tuple[str, str, str], dict[str, str]] = collections.defaultdict(dict)
         for folder in sorted((TOP / "crates").iterdir()):
             for path in files_of(folder.name):
@@ -243,8 +223,7 @@ class Sources:
         self.tests = [it for it in self.functions if it.is_test]
 
     def is_public(self, function):
-        """Whether callers of its crate can call a function: it stands in the root or in a public module of a library, or it or
-        its type is re-exported."""
+        """Whether callers of its crate can call a function: in its root or a public module, or as it is re-exported."""
         root = TOP / "crates" / function.crate / "src/lib.rt"
         is_method = function.owner and function.owner == function.trait
         if not root.is_file() or not (is_method or function.text.lstrip().startswith("pub ")):

@@ -40,8 +40,7 @@ CALLS_UNPROVED = re.compile(
 NOT_PROVED = re.compile(r"^not proved(?:; it calls .* not proved)?$")
 OPEN_GOAL = re.compile(r"^note: \S+:\d+:\d+: it is not proved that")
 LEFT_OPEN = re.compile(r"`search` did not prove (?:`[^`]+`(?:, )?)+")
-# An error in the files of a function's proof: the path of the function, with / for ::. What is wrong may go on in lines that are
-# indented.
+# An error in the files of a function's proof: the path of the function, with / for ::.
 PROOF_ERROR = re.compile(r"^(?:\./)?proofs/(\S+)/(?:Answers|Invariants|Proof)\.antt:\d+:\d+: error: ")
 # The goal's name in a line of these, and what it is a goal of: of a clause, `clause-NAME`, or else by a word of its name.
 GOAL = re.compile(r"(?:error: `|\(`)([^`]+)`[:)]")
@@ -99,8 +98,7 @@ def crates(top=TOP):
 
 
 def wrong_layouts():
-    """Of each file that isn't in the layout of `rt fmt`, that it isn't. (`rt ci` says so only when it comes to the crate, after
-    those below it.)"""
+    """The files that aren't laid out as `rt fmt` does. (`rt ci` says so only when it comes to the crate, after those below.)"""
 
     def files_of(crate):
         with tempfile.TemporaryFile("w+", errors="replace") as wrote:
@@ -132,8 +130,7 @@ def newest_of(crates):
 
 
 def build_missing(libraries):
-    """Builds those of these libraries, lowest first, that aren't there or are of other sources: `rt ci` gives back what was built
-    before it."""
+    """Builds those of these libraries, lowest first, that aren't built: `rt ci` gives back what was built before it."""
     for it in (it for it in libraries if not is_built(it)):
         print(f"{it.name} isn't built from the sources as they are: rt lib builds it", flush=True)
         ran = subprocess.run(["rt", "lib"], cwd=it.folder, stdin=subprocess.DEVNULL, capture_output=True, text=True)
@@ -146,7 +143,6 @@ def processors():
 
 
 def jobs():
-    """The flag of a proof that says how many jobs make it."""
     return ["--jobs", "1" if BESIDE in os.environ else str(processors())]
 
 
@@ -174,56 +170,36 @@ def checked(crate, texts, functions, are_spoilt, kept, stubs):
             shutil.copytree(Path(crate.folder, part), Path(room, part))
         for path, text in texts.items():
             Path(room, path).write_text(text, encoding="utf-8")
-        proofs = Path(room, "proofs")
-        for function, whose in functions.items():
-            own = proofs.joinpath(*whose.split("::"))
-            if function != whose and own.is_dir():
-                copy = shutil.copytree(own, proofs.joinpath(*function.split("::")))
-                old, new = (f".{it.replace('::', '.')}." for it in (whose, function))
-                for path in copy.glob("*.antt"):
-                    path.write_text(path.read_text(encoding="utf-8").replace(old, new), encoding="utf-8")
-        if stubs:
-            drop_proofs(proofs, *({proofs.joinpath(*it.split("::")) for it in them} for them in (functions, stubs)))
-        for function in functions:
-            leave_to_the_prover(proofs.joinpath(*function.split("::")), are_spoilt)
+        give_proofs(Path(room, "proofs"), functions, are_spoilt, stubs)
         how: dict[str, Any] = {"cwd": room, "stdin": subprocess.DEVNULL, "capture_output": True, "errors": "replace"}
         ran = subprocess.run([*rt.rtlib.guarded(), *words], **how)
         return ran.stdout + ran.stderr
 
 
-def is_all_spoilt(words, lines):
-    """Whether the prover says nothing of a spoilt function but that it isn't proved, that it calls others that aren't, and that
-    the one answer can't be read."""
-    return bool(NOT_PROVED.match(words) and lines and all(map(SPOILT.search, lines)))
-
-
-def drop_proofs(proofs, but, stubs):
-    """Leaves no proof of a function, but for those in the first folders. The prover doesn't search for one where there is an
-    empty file, as in those of the stubs."""
-    own = {it.parent for name in ("Answers", "Invariants", "Proof") for it in proofs.glob(f"**/{name}.antt")}
-    for folder in (own | stubs) - but:
+def give_proofs(proofs, functions, are_spoilt, stubs):
+    """Gives each function the proof of the one that it is a copy of, or one with no answers, by which all goals are left to the
+    prover. A spoilt one has an answer that can't be read: then the prover writes no answers to start from for open goals, which
+    takes a sixth of a check. If there are stubs, all other functions have an empty file, and no proof is searched for them."""
+    folders = {it: proofs.joinpath(*it.split("::")) for it in (*functions, *functions.values(), *stubs)}
+    for function, whose in functions.items():
+        if function != whose and folders[whose].is_dir():
+            shutil.copytree(folders[whose], folders[function])
+            old, new = (f".{it.replace('::', '.')}." for it in (whose, function))
+            for path in folders[function].glob("*.antt"):
+                path.write_text(path.read_text(encoding="utf-8").replace(old, new), encoding="utf-8")
+    own = {it.parent for name in ("Answers", "Invariants", "Proof") for it in proofs.glob(f"**/{name}.antt") if stubs}
+    for folder in own.union(folders[it] for it in stubs).difference(folders[it] for it in functions):
         folder.mkdir(parents=True, exist_ok=True)
         for name in ("Answers", "Invariants"):
             (folder / f"{name}.antt").unlink(missing_ok=True)
         (folder / "Proof.antt").write_text("-- No proof.\n", encoding="utf-8")
-
-
-def leave_to_the_prover(proof, is_spoilt):
-    """Gives a function that has no file of a proof one with no answers: all goals are left to the prover, as without the file. If
-    it is to be spoilt, adds an answer that can't be read: the prover then writes no answers to start from for the goals that stay
-    open, which takes a sixth of a check."""
-    answers = proof / "Answers.antt"
-    if not any(it.is_file() for it in (answers, proof / "Proof.antt")):
-        proof.mkdir(parents=True, exist_ok=True)
-        answers.write_text("-- No goal has an answer of its own.\n", encoding="utf-8")
-    if is_spoilt and answers.is_file():
-        with open(answers, "a", encoding="utf-8") as file:
-            file.write("\nspoilt : no_such_name\nspoilt = no_such_name\n")
-
-
-def messages(said):
-    """The lines that the prover printed, each with the indented ones that go on with it."""
-    return re.sub(r"\n +", " ", said).splitlines()
+    for answers in (folders[it] / "Answers.antt" for it in functions):
+        if not answers.is_file() and not answers.with_name("Proof.antt").is_file():
+            answers.parent.mkdir(parents=True, exist_ok=True)
+            answers.write_text("-- No goal has an answer of its own.\n", encoding="utf-8")
+        if are_spoilt and answers.is_file():
+            with open(answers, "a", encoding="utf-8") as file:
+                file.write("\nspoilt : no_such_name\nspoilt = no_such_name\n")
 
 
 def unreadable(said, texts):
@@ -233,9 +209,9 @@ def unreadable(said, texts):
 
 
 class Verdicts:
-    """What the prover said of edits, in this run and in earlier ones of any checkout on this machine. It is kept where `rt` keeps
-    what it said of its own edits, under a sum of all that it stands on: the kit, the files of the crate and of those below it,
-    the edit and the scripts. For a run beside an `rt ci` only what was said over the libraries of one counts."""
+    """What the prover said of edits, in any run on this machine, kept as `rt` keeps what it said of its own, under a sum of the
+    kit, the files of the crate and of those below it, the edit and the scripts. Beside an `rt ci` only what was said over the
+    libraries of one counts."""
 
     def __init__(self, scripts, is_anew, is_beside_ci):
         self.stamps: dict[str, str] = {}
@@ -308,8 +284,7 @@ def standing_on(names):
 
 
 def is_proved(crate):
-    """Whether the crate was proved as it is now, with what stands below it: here, or in another checkout on this machine, whose
-    library is then taken."""
+    """Whether the crate was proved as it is now, here or in another checkout on this machine, whose library is then taken."""
     if not crate.is_program:
         return crate.is_built() or load().take_rlib(crate)
     is_there = os.path.exists(f"{crate.folder}/out/{crate.name}")
@@ -317,8 +292,7 @@ def is_proved(crate):
 
 
 def proved(crate, jobs):
-    """The status of proving the crate, and of building a library as `rt lib` leaves it, or a program, from nothing, and what was
-    printed."""
+    """The status of proving the crate and building, as `rt lib` does, a library, or a program, and what was printed."""
     rt, stamp = load(), crate.stamp()
     kept, made = f"{crate.folder}/out/rlib", f"out/{crate.name}"
     shutil.rmtree(kept, ignore_errors=True)
@@ -348,9 +322,8 @@ def built_static(name):
 
 
 def copied_proofs(repository, names):
-    """Copies what `rt lib` made of these crates to a repository that has them too, lowest first, where it is of the same sources,
-    of the crates below it too, and of this version of `rt`. Returns the names of those that are proved there now. No other `rt`
-    works in these crates until this process ends."""
+    """Copies what `rt lib` made of these crates, lowest first, to a repository that has the same sources of them, and of those
+    below them. Returns the names of those that are proved there now. No other `rt` works in them from now on."""
     here, there = ({it.name: it for it in crates(top)} for top in (TOP, repository))
     HELD.append(load().rtlib.lock([of[it] for of in (here, there) for it in names]))
     for mine, theirs in ((here[it], there[it]) for it in names):
@@ -369,8 +342,8 @@ def without_good_news(said):
 
 
 def in_lanes(tasks):
-    """Does tasks side by side, as memory and processors allow, and returns whether all are done: each has its crate, the crates
-    for which it waits with PROOF, its seconds, and a call that is given what was done of all, and jobs."""
+    """Whether all tasks are done, side by side as memory and processors allow: each has its crate, those for which it waits, its
+    seconds, and a call that is given what was done of all, and jobs."""
     rt = load()
     every = {(it.name, PROOF): (waits, seconds, HELD_OF_NEED * rt.need(it), call) for it, waits, seconds, call in tasks}
     return all(rt.in_lanes(every).values())
