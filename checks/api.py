@@ -80,12 +80,10 @@ def of_file(every, calls, path):
 
 
 def about(path):
-    """What a file's first lines say of it."""
     return " ".join(paragraphs(re.findall(r"(?m)^//! ?(.*)$", sources.text_of(path)))[:1])
 
 
 def sources_of(crate):
-    """The crate's root, and its other files."""
     return sorted(sources.files_of(crate), key=lambda it: it.name not in ("lib.rt", "main.rt") or it.parent.name != "src")
 
 

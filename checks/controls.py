@@ -134,8 +134,7 @@ class Index:
 
     def reached(self, said):
         """The names of items that these statements cite, and of those that they cite, and all that is stated there."""
-        found: set[str] = set()
-        left, said = {*said}, {*said}
+        found, left, said = set[str](), {*said}, {*said}
         while left:
             new = {it for one in left for it in one.names if it in self.items} - found
             found |= new
@@ -143,11 +142,6 @@ class Index:
             left -= said
             said |= left
         return found, said
-
-    def called(self, words, reached):
-        """The headers of functions with these names, but for those of types and traits that nothing cites."""
-        every = (it for word in words & self.heads.keys() for it in self.heads[word])
-        return {said for owner, trait, said in every if owner not in self.declared or {owner, trait} & reached}
 
     def sum_of(self, edit):
         """The checksum of all that an edit rests on."""
@@ -163,8 +157,10 @@ class Index:
         cited = {said for word in words & self.items.keys() for said in self.items[word]}
         words.update(*(it.words for it in cited if "macro_rules" in it.words))
         reached, said = self.reached(said | {stated(it, it, ()) for it in (*proof, *lemmas(edit.crate, [*texts, *proof]))})
-        while more := self.called(words, reached) - said:
-            reached, said = self.reached(said | more)
+        # (functions of these names, but for those of types and traits that nothing cites)
+        heads = [it for word in words & self.heads.keys() for it in self.heads[word]]
+        while called := {it for owner, trait, it in heads if owner not in self.declared or {owner, trait} & reached} - said:
+            reached, said = self.reached(said | called)
         return sum_of([self.kit, *sorted(it.sum for it in said)], 16)
 
 
@@ -177,7 +173,6 @@ class Accepted:
         self.is_anew, self.seed, self.now, self.again = is_anew, seed, {}, []
 
     def left_out(self, crate, edits):
-        """Those of a crate's edits that needn't be tried."""
         index, known = Index(crate), () if self.is_anew else self.sums.get(crate.name, ())
         now = {it: index.sum_of(it) for it in edits if it.kind == sources.CONTROL}
         same = [it for it in now if now[it] in known]

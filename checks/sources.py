@@ -37,8 +37,8 @@ MUTANT, CONTROL = "mutant", "control"
 Evidence = namedtuple("Evidence", "promise mutants tests kept")
 
 
-def text_of(path):
-    return path.read_text(encoding="utf-8")
+def text_of(path, errors="strict"):
+    return path.read_text(encoding="utf-8", errors=errors)
 
 
 def paragraphs(name):
@@ -83,8 +83,7 @@ def owner_of(header):
 
 def header_of(lines, at=0):
     """The lines of the header of a function that begins at a line, each with the word and the name of its clause, or nothing."""
-    header: list[tuple[str, tuple[str, str] | None]] = []
-    clause, depth = None, 0
+    header, clause, depth = list[tuple](), None, 0
     while True:
         row = lines[at + len(header)].rstrip()
         found = None if depth else CLAUSE.fullmatch(row)
@@ -204,8 +203,6 @@ def is_of_type(edit):
 
 
 class Sources:
-    """All of them."""
-
     def __init__(self):
         self.functions, self.edits, self.definitions, self.types = [], [], dict[str, str](), set[str]()
         self.members: dict[tuple[str, str, str], dict[str, str]] = collections.defaultdict(dict)
