@@ -1,14 +1,13 @@
 """The options and fixtures of the tests that checks/frozen runs by pytest."""
 
 import functools
-import os
 import sys
 
 sys.dont_write_bytecode = True
 import hypothesis
 import pytest
-from programs import TOP, called, compiled, program
-from tool import NAME, OF_PROGRAM, Tool
+from programs import compiled
+from tool import OF_PROGRAM, Tool
 
 hypothesis.settings.register_profile(
     "gate", derandomize=True, deadline=None, database=None, suppress_health_check=[*hypothesis.HealthCheck]
@@ -34,14 +33,13 @@ def pytest_collection_modifyitems(config, items):
 @pytest.fixture(scope="session")
 def library(tmp_path_factory):
     """The library that refuses requests for memory, and lets reads and writes fail."""
-    return compiled(str(tmp_path_factory.mktemp("library")))
+    return compiled(tmp_path_factory.mktemp("library"))
 
 
 @pytest.fixture(scope="session")
 def tools(library, tmp_path_factory):
     """Gives the program, as one of the compilers built it."""
-    folder = tmp_path_factory.mktemp("tool")
-    return functools.cache(lambda build: Tool(called(NAME, os.path.join(TOP, program(NAME, build)), folder), library))
+    return functools.cache(lambda build: Tool(build, tmp_path_factory.mktemp(build.strip(".") or "first"), library))
 
 
 @pytest.fixture(scope="session", params=OF_PROGRAM)

@@ -1,25 +1,29 @@
-"""Readers and writers of all files: dictionaries, which are frozen tables or folders of these, columns, of which maps are some,
-and plain codes. They are written from docs/FORMATS.md alone: nothing of the library is used.
-"""
+"""Readers and writers of dictionaries, columns, maps and plain codes, from docs/FORMATS.md alone, without the library."""
 
 import functools
 import itertools
 import os
 import struct
+from collections import namedtuple
+from collections.abc import Sequence
 from itertools import pairwise
 from pathlib import Path
 from typing import NamedTuple
 
 BYTES, TEXT = 0, 1
 KINDS = ("bytes", "text")
-MAX_COUNT, NO_SYMBOL, MAX_PILOT = 2**31, 2**32 - 1, 2**16 - 1
-ATTEMPTS = 8
-WORD = 2**64 - 1
+MAX_COUNT, NO_SYMBOL, MAX_PILOT, WORD = 2**31, 2**32 - 1, 2**16 - 1, 2**64 - 1
 TABLE_HEADER = struct.Struct("<8sIIQQQQ16s16sII40s")
+Header = namedtuple(
+    "Header", "magic version kind key0 key1 strings length own set shards shard reserved",
+    defaults=(b"INTAGLIO", 2, BYTES, 0, 0, 0, 0, b"", b"", 1, 0, b""),
+)
 COLUMN_MAGIC, COLUMN_VERSION = bytes.fromhex("494e5489434f4c0a"), 2
-COLUMN_HEADER = struct.Struct("<8sII16sQQIIQII16sI36s")
-# Where its checksum is.
-CHECKSUM = slice(56, 64)
+COLUMN_HEADER, CHECKSUM = struct.Struct("<8sII16sQQIIQII16sI36s"), slice(56, 64)
+# What a dictionary is, with the identity of its set, and from which one the rows of a map come; the default is that of lines.
+Id = namedtuple("Id", "kind strings identity")
+Source = namedtuple("Source", "shards kind identity shard", defaults=(0, 0, bytes(16), 0))
+Column = namedtuple("Column", "id codes source shards", defaults=(Source(), 1))
 # The missing code, of four bytes.
 MISSING = 2**32 - 1
 LINELESS = f"is {MISSING}, that of a line that wasn't in a dictionary; --missing TEXT gives it a line"
@@ -52,9 +56,7 @@ def sip_hash(key0, key1, string):
     for (word,) in struct.iter_unpack("<Q", padded):
         a, b, c, d = sip_round(a, b, c, d ^ word)
         a ^= word
-    c ^= 0xFF
-    for _ in range(3):
-        a, b, c, d = sip_round(a, b, c, d)
+    a, b, c, d = sip_round(*sip_round(*sip_round(a, b, c ^ 0xFF, d)))
     return a ^ b ^ c ^ d
 
 
@@ -68,23 +70,6 @@ def identity(tag, data):
 
 
 # Frozen tables.
-
-
-class Header(NamedTuple):
-    """What the header of a table says."""
-
-    magic: bytes = b"INTAGLIO"
-    version: int = 2
-    kind: int = BYTES
-    key0: int = 0
-    key1: int = 0
-    strings: int = 0
-    length: int = 0
-    own: bytes = b""
-    set: bytes = b""
-    shards: int = 1
-    shard: int = 0
-    reserved: bytes = b""
 
 
 def header_of(table):
@@ -112,7 +97,7 @@ class Sections:
         return scaled(self.places, mixed(number, pilots[scaled(self.groups, number)]))
 
 
-class Frozen:
+class Frozen(Sequence):
     """A table over its bytes. A trusted one is read by its header alone."""
 
     def __init__(self, data, is_trusted=False):
@@ -127,9 +112,6 @@ class Frozen:
 
     def __len__(self):
         return len(self.ends)
-
-    def __iter__(self):
-        return map(self.__getitem__, range(len(self)))
 
     def __getitem__(self, symbol):
         """The string of a symbol."""
@@ -149,7 +131,7 @@ class Frozen:
 def version_faults(data, known):
     """What is wrong with the version, which stands behind the magic."""
     version = int.from_bytes(data[8:12], "little")
-    return [] if version == known else ["old version" if version == 1 else "version"]
+    return [{1: "old version"}.get(version, "version")] * (version != known)
 
 
 def table_header_faults(data):
@@ -186,10 +168,7 @@ def table_faults(data):
 
 
 def is_text(string):
-    try:
-        return string.decode() is not None
-    except UnicodeDecodeError:
-        return False
+    return string.decode(errors="ignore").encode() == string
 
 
 def pilots_of(hashes):
@@ -225,16 +204,10 @@ def freeze(strings, kind=BYTES, key0=None, key1=0):
     """The bytes of a frozen table of these strings, which must be distinct, or nothing if a string gets no place. If no keys are
     given, they are the default ones."""
     for first, second in default_keys(strings) if key0 is None else [(key0, key1)]:
-        for tried in [first + attempt & WORD for attempt in range(ATTEMPTS)]:
+        for tried in [first + attempt & WORD for attempt in range(8)]:
             if pilots := pilots_of([sip_hash(tried, second, it) for it in strings]):
                 return assembled(strings, pilots, Header(kind=kind, key0=tried, key1=second))
     return None
-
-
-def rebuilt(table):
-    """The bytes of a table, from its kind, keys, strings, pilots and place in its set alone."""
-    stay = {name: getattr(table.header, name) for name in ("kind", "key0", "key1", "set", "shards", "shard")}
-    return assembled([*table], table.pilots, Header(**stay))
 
 
 def assembled(strings, pilots, header):
@@ -249,14 +222,6 @@ def assembled(strings, pilots, header):
     header = header._replace(strings=len(strings), length=ends[-1] if ends else 0, own=own, set=header.set or own)
     sections = struct.pack(f"<{at.places}I{len(ends)}I{at.groups}H", *symbols, *ends, *pilots)
     return b"".join([TABLE_HEADER.pack(*header), sections, tags, *strings])
-
-
-class Id(NamedTuple):
-    """What a dictionary is. The identity is that of its set."""
-
-    kind: int
-    strings: int
-    identity: bytes
 
 
 def id_of(table):
@@ -279,24 +244,6 @@ def width_for(count):
     return 1 if count <= 255 else 2 if count <= 65_535 else 4
 
 
-class Source(NamedTuple):
-    """From which dictionary the rows of a map come. The default is that of lines."""
-
-    shards: int = 0
-    kind: int = 0
-    identity: bytes = bytes(16)
-    shard: int = 0
-
-
-class Column(NamedTuple):
-    """A column: its dictionary, its codes, from where its rows come, and how many shards the dictionary has."""
-
-    id: Id
-    codes: list[int]
-    source: Source = Source()
-    shards: int = 1
-
-
 def column(*given, **named):
     """The bytes of a column, with what `Column` has."""
     of, codes, source, shards = Column(*given, **named)
@@ -314,19 +261,14 @@ def header_of_column(data):
 
 def read_column(data):
     """The column in these bytes."""
-    of, _, width, shards, source, _ = header_of_column(data)
-    return Column(of, widened(data, width), source, shards)
-
-
-def column_checksum(data):
-    """The checksum of the codes, and then of the header with zeros in place of the checksum."""
-    header = data[: CHECKSUM.start] + bytes(8) + data[CHECKSUM.stop : COLUMN_HEADER.size]
-    return numbers(sip_hash(4, 0, data[COLUMN_HEADER.size :] + header))
+    of, _, _, shards, source, _ = header_of_column(data)
+    return Column(of, widened(data, width_for(of.strings)), source, shards)
 
 
 def sealed(data):
-    """The bytes of a column with their checksum."""
-    return data[: CHECKSUM.start] + column_checksum(data) + data[CHECKSUM.stop :]
+    """The bytes of a column with the checksum of the codes, and then of the header with zeros in place of the checksum."""
+    start, end, codes = data[: CHECKSUM.start], data[CHECKSUM.stop : COLUMN_HEADER.size], data[COLUMN_HEADER.size :]
+    return start + numbers(sip_hash(4, 0, codes + start + bytes(8) + end)) + end + codes
 
 
 def widened(data, width):
@@ -361,11 +303,10 @@ def column_faults(data):
     faults, is_whole = column_header_faults(data)
     if not is_whole:
         return faults
-    of, _, _, _, source, _ = header_of_column(data)
-    codes = [*enumerate(widened(data, width_for(of.strings)))]
-    faults += ["damaged"] * (column_checksum(data) != data[CHECKSUM])
-    faults += [f"no string: {row}" for row, code in codes if code >= of.strings and code != MISSING]
-    return faults + [f"missing: {row}" for row, code in codes if code == MISSING and source.shards]
+    of, codes, source, _ = read_column(data)
+    faults += ["damaged"] * (sealed(data) != data)
+    faults += [f"no string: {row}" for row, code in enumerate(codes) if code >= of.strings and code != MISSING]
+    return faults + [f"missing: {row}" for row, code in enumerate(codes) if code == MISSING and source.shards]
 
 
 # Plain codes, and lines.
@@ -376,16 +317,8 @@ def packed(codes):
     return struct.pack(f"<{len(codes)}I", *codes)
 
 
-def unpacked(data):
-    """The plain codes in a file."""
-    if len(data) % 4:
-        raise Damaged(len(data) // 4 + 1, "is cut short")
-    return [*struct.unpack(f"<{len(data) // 4}I", data)]
-
-
 def lines_of(data):
-    lines = data.split(b"\n")
-    return lines[: -1 if lines[-1] == b"" else None]
+    return data.removesuffix(b"\n").split(b"\n") if data else []
 
 
 def ended(lines):
@@ -398,7 +331,7 @@ def encoded(strings, lines):
     return [symbols.get(it, MISSING) for it in lines]
 
 
-def translated(codes, values, missing, fault):
+def decoded(values, codes, missing=None, fault="is no symbol"):
     """The value of each code, and of missing ones this one, if there is one."""
     for place, code in enumerate(codes, 1):
         if code == MISSING and missing is None:
@@ -408,14 +341,8 @@ def translated(codes, values, missing, fault):
     return [missing if it == MISSING else values[it] for it in codes]
 
 
-def decoded(strings, codes, missing=None):
-    """The lines of codes."""
-    return translated(codes, strings, missing, "is no symbol")
-
-
-def renumbered(into, codes):
-    """The codes under a map; missing ones stay so."""
-    return translated(codes, into, MISSING, "isn't in the map")
+# The codes under a map; missing ones stay so.
+renumbered = functools.partial(decoded, missing=MISSING, fault="isn't in the map")
 
 
 # Dictionaries of one shard or several, and maps.
@@ -485,16 +412,11 @@ def merge_of(parts, count=1):
     return Dictionary(kind, identity(3, numbers(len(shards), len(parts)) + b"".join(it.set for it in parts)), shards)
 
 
-def source_of(part, shard=0):
-    """That of a map from this shard of a dictionary."""
-    return Source(len(part.shards), part.kind, part.set, shard)
-
-
 def map_of(part, whole, shard=0):
     """The map of a shard of a part to the same shard of the merged dictionary, or of a part of one shard to all of it."""
     into = whole.shards[shard] if len(part.shards) > 1 else whole.strings
-    codes = encoded(into, part.shards[shard])
-    return column(whole.id._replace(strings=len(into)), codes, source_of(part, shard), len(whole.shards))
+    source = Source(len(part.shards), part.kind, part.set, shard)
+    return column(whole.id._replace(strings=len(into)), encoded(into, part.shards[shard]), source, len(whole.shards))
 
 
 def maps_of(parts, whole):

@@ -9,55 +9,41 @@ inputs, and a name is empty.
 import contextlib
 import itertools
 import os
-import stat
 import subprocess
+from collections import namedtuple
 from pathlib import Path
-from typing import Any, NamedTuple
+from typing import Any
 
 import pytest
 from formats import dictionary_of, ended, maps_of, packed, put
-from tool import ONE_STANDARD_INPUT, WAS, WORDS, also_output, said
+from tool import ONE_STANDARD_INPUT, WAS, WORDS, also_output, said, seen
 
 WHOLE = dictionary_of(WORDS)
+TABLE = WHOLE.files()["0.dict"]
 # What is in the inputs, so that each command would end with status 0. Other words aren't the names of files.
 CONTENTS = {
-    "lines": ended(WORDS), "dict": WHOLE.files()["0.dict"], "codes": packed([1, 0, 19]), "column": WHOLE.column(WORDS[:3]),
-    "--into dict": WHOLE.files()["0.dict"],
+    "lines": ended(WORDS), "dict": TABLE, "codes": packed([1, 0, 19]), "column": WHOLE.column(WORDS[:3]), "--into dict": TABLE,
 }
 # What is otherwise read from standard input.
 NUMBERS = {"3": b"3\n0\n"}
-
-
-class Command:
-    """A command: its words, what its inputs are, behind their options, its outputs, of which one with ! isn't standard output if
-    it isn't named, and whether the last input is standard input if it isn't named."""
-
-    def __init__(self, words, inputs, outputs, reads_standard=True):
-        self.words, self.inputs, self.outputs, self.reads_standard = words, inputs.split(", "), outputs.split(), reads_standard
-
-
-COMMANDS = [
-    Command("freeze", "lines", "-o! --column"), Command("freeze", "lines, lines", "-o!", False),
-    Command("find", "dict, lines", "stdout"), Command("get", "dict, 3", "stdout"), Command("list", "dict", "stdout", False),
-    Command("check", "dict, column", "stdout", False), Command("stat", "dict", "stdout", False),
-    Command("encode", "dict, lines", "-o"), Command("encode --raw", "dict, lines, lines", "-o", False),
-    Command("decode", "dict, column", "-o"), Command("decode --raw", "dict, codes", "-o"),
-    Command("rows", "dict, column, 0", "stdout", False), Command("count", "dict, column", "stdout", False),
-    Command("match --invert", "dict, column, word0", "stdout", False),
-    Command("renumber --maps maps", "column, --into dict", "-o", False), Command("merge", "dict, dict", "-o!", False),
-]
+# A command: its words, what its inputs are, behind their options, its outputs, of which one with ! isn't standard output if it
+# isn't named, and whether the last input is standard input if it isn't named.
+Command = namedtuple("Command", "words inputs outputs reads_standard", defaults=(False,))
+COMMANDS = [Command(words, inputs.split(", "), outputs.split(), *others) for words, inputs, outputs, *others in (
+    ("freeze", "lines", "-o! --column", True), ("freeze", "lines, lines", "-o!"),
+    ("find", "dict, lines", "stdout", True), ("get", "dict, 3", "stdout", True), ("list", "dict", "stdout"),
+    ("check", "dict, column", "stdout"), ("stat", "dict", "stdout"),
+    ("encode", "dict, lines", "-o", True), ("encode --raw", "dict, lines, lines", "-o"),
+    ("decode", "dict, column", "-o", True), ("decode --raw", "dict, codes", "-o", True),
+    ("rows", "dict, column, 0", "stdout"), ("count", "dict, column", "stdout"),
+    ("match --invert", "dict, column, word0", "stdout"),
+    ("renumber --maps maps", "column, --into dict", "-o"), ("merge", "dict, dict", "-o!"),
+)]
 EACH = pytest.mark.parametrize("command", [pytest.param(it, id=f"{it.words} {' '.join(it.inputs)}") for it in COMMANDS])
 # How a file is named: from the folder that the program runs in, with what makes a link to the file.
 NAMES = ("file", "folder/.././file", "folder/link", "link")
-REDIRECTED = {">": "wb", ">>": "ab"}
-
-
-class Way(NamedTuple):
-    """How an input or output is given: words after those of its option, and what standard input or output is opened with."""
-
-    called: str
-    words: tuple = ()
-    mode: str = ""
+# How an input or output is given: words after those of its option, and what standard input or output is opened with.
+Way = namedtuple("Way", "called words mode", defaults=((), ""))
 
 
 def ways_of_input(command, number):
@@ -74,7 +60,7 @@ def ways_of_output(output, is_there):
     option = () if output == "stdout" else (output.rstrip("!"),)
     if option:
         yield from (Way(name, (*option, name)) for name in NAMES + ("hard",) * is_there)
-    for sign, mode in REDIRECTED.items():
+    for sign, mode in ((">", "wb"), (">>", "ab")):
         if option:
             yield Way(f"- and {sign}", (*option, "-"), mode)
         if output in ("-o", "stdout"):
@@ -92,17 +78,8 @@ def words_of(command, given):
         if what in CONTENTS:
             put(".", {f"in{number}": CONTENTS[what]})
             kind = f"in{number}"
-        way = given.get(("input", number), Way("", (kind,)))
-        words += [*option, *way.words]
+        words += [*option, *given.get(("input", number), Way("", (kind,))).words]
     return words
-
-
-def seen():
-    """All that is there: of each name what it is, its number, its mode, and what is in it."""
-    for path in sorted(Path().glob("**/*")):
-        it = path.lstat()
-        inside = os.readlink(path) if path.is_symlink() else path.read_bytes() if path.is_file() else None
-        yield str(path), it.st_ino, it.st_mode, it.st_nlink, stat.S_ISREG(it.st_mode) and it.st_mtime_ns, inside
 
 
 def ended_as(tool, command, given={}, messages=None):
@@ -114,10 +91,9 @@ def ended_as(tool, command, given={}, messages=None):
             streams["stdin" if way.mode == "rb" else "stdout"] = opened.enter_context(open("file", way.mode))
         if messages:
             streams["stderr"] = opened.enter_context(open(messages, "ab"))
-        before = [*seen()]
+        before = seen()
         ran = subprocess.run([tool.path, *words], timeout=60, **streams)
-    told = (ran.stderr or b"").decode(errors="replace").splitlines()
-    return ran.returncode, ran.stdout or b"", told, before == [*seen()]
+    return ran.returncode, ran.stdout or b"", (ran.stderr or b"").decode(errors="replace").splitlines(), before == seen()
 
 
 @pytest.fixture(autouse=True)
@@ -134,47 +110,34 @@ def shown(way, standard):
     return way.words[-1] if way.words and way.words[-1] != "-" else f"standard {standard}"
 
 
-# Each of these yields what is given, what is in the file, and how the program ends.
-
-
-def inputs_and_outputs(command):
-    """Each pair of an input and an output that are one file, in each two ways."""
-    for (number, what), (at, output) in itertools.product(enumerate(command.inputs), enumerate(command.outputs)):
-        for read_by, written in itertools.product(ways_of_input(command, number), ways_of_output(output, True)):
-            called = f"input {number} {read_by.called}, {output} {written.called}"
-            wanted = also_output(shown(read_by, "input"), shown(written, "output"))
-            yield called, {("output", at): written, ("input", number): read_by}, (CONTENTS | NUMBERS)[what], wanted
-
-
-def two_outputs(command):
-    """The same of each two outputs, which are there before or aren't."""
-    pairs = itertools.combinations(enumerate(command.outputs), 2)
-    for ((at, one), (to, other)), content in itertools.product(pairs, (WAS, None)):
+def refused(command):
+    """Yields what is given, what is in the file, and how the program ends: for each pair of an input and an output that are one
+    file, in each two ways, for each two outputs, which are there before or aren't, for each two inputs that are both standard
+    input, and for each empty name."""
+    inputs, outputs = [*enumerate(command.inputs)], [*enumerate(command.outputs)]
+    for (number, what), (at, output) in itertools.product(inputs, outputs):
+        for source, written in itertools.product(ways_of_input(command, number), ways_of_output(output, True)):
+            called, given = f"input {number} {source.called}, {output} {written.called}", {("output", at): written}
+            wanted = also_output(shown(source, "input"), shown(written, "output"))
+            yield called, given | {("input", number): source}, (CONTENTS | NUMBERS)[what], wanted
+    for ((at, one), (to, other)), content in itertools.product(itertools.combinations(outputs, 2), (WAS, None)):
         for first, second in itertools.product(*(ways_of_output(it, content is not None) for it in (one, other))):
             called = f"{one} {first.called}, {other} {second.called}{'' if content else ', not there'}"
             wanted = also_output(shown(second, "output"), shown(first, "output"), "output")
             yield called, {("output", at): first, ("output", to): second}, content, wanted
-
-
-def two_inputs(command):
-    """Each two inputs that are both standard input."""
-    standard = Way("", ("-",), "rb")
-    for pair in itertools.combinations([it for it, what in enumerate(command.inputs) if what in CONTENTS | NUMBERS], 2):
-        ways = standard, Way("") if "3" in (command.inputs[it] for it in pair) else standard
-        yield f"standard input twice: {pair}", dict(zip((("input", it) for it in pair), ways)), WAS, said(2, ONE_STANDARD_INPUT)
-
-
-def empty_names(command):
-    inputs = {("input", number): ("",) for number, what in enumerate(command.inputs) if what in CONTENTS}
-    outputs = {("output", at): (it.rstrip("!"), "") for at, it in enumerate(command.outputs) if it.startswith("-")}
-    for at, words in (inputs | outputs).items():
+    for pair in itertools.combinations([it for it in inputs if it[1] in CONTENTS | NUMBERS], 2):
+        ways = (Way("", ("-",), "rb") if what in CONTENTS else Way("") for _, what in pair)
+        given = dict(zip((("input", number) for number, _ in pair), ways))
+        yield f"standard input twice: {pair}", given, WAS, said(2, ONE_STANDARD_INPUT)
+    named = {("input", number): ("",) for number, what in inputs if what in CONTENTS}
+    named |= {("output", at): (it.rstrip("!"), "") for at, it in outputs if it.startswith("-")}
+    for at, words in named.items():
         yield f"{at[0]} {at[1]} empty", {at: Way("", words)}, None, said(2, f"the name of an {at[0]} is empty")
 
 
 @pytest.mark.parametrize("command, given, content, wanted", [
     pytest.param(command, *case, id=f"{number} {command.words}: {called}")
-    for number, command in enumerate(COMMANDS)
-    for cases in (inputs_and_outputs, two_outputs, two_inputs, empty_names) for called, *case in cases(command)
+    for number, command in enumerate(COMMANDS) for called, *case in refused(command)
 ])
 def test_refused_names(tool, command, given, content, wanted):
     """The program says why, and nothing else happens."""

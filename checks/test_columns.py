@@ -12,62 +12,37 @@ from pathlib import Path
 import pytest
 import test_shards
 from formats import (
-    BYTES, KINDS, LINELESS, MISSING, TEXT, column, dictionary_of, encoded, ended, freeze, id_of, lines_of, packed, put,
-    random_parts, read_dictionary, width_for,
+    BYTES, KINDS, LINELESS, MISSING, TEXT, dictionary_of, encoded, ended, freeze, is_text, lines_of, packed, put, random_parts,
+    read_dictionary, width_for,
 )
 from hypothesis import given, settings
 from hypothesis import strategies as st
 from programs import TOP, run
-from tool import DONE, TRUSTED_FOLDER, left, made, read, said, wrote
-
-CODED = f"--missing gives such lines the code {MISSING}"
-
-
-def shown(line):
-    """A line as messages show it: as it is if it's a short text without control characters, and otherwise escaped."""
-    named = {9: "\\t", 10: "\\n", 13: "\\r", 34: '\\"', 39: "\\'", 92: "\\\\"}
-    escaped = "".join(named.get(it, chr(it) if 32 <= it < 127 else f"\\x{it:02x}") for it in line[:200])
-    try:
-        text = line.decode()
-    except UnicodeDecodeError:
-        text = "\0"
-    is_plain = len(line) <= 200 and not any(unicodedata.category(it) == "Cc" for it in text)
-    return f"'{text}'" if is_plain else f"'{escaped}'" + ".." * (len(line) > 200)
+from tool import DONE, ONE, TRUSTED_FOLDER, WHOLE, left, made, other_dictionary, read, said, wrote
 
 
 def missing_line(name, place, line):
-    return f"{name}: line {place} is not in the dictionary: {shown(line)}; {CODED}"
+    """What is said of a line that is in no dictionary. It is shown as it is if it's a short text without control characters, and
+    otherwise escaped."""
+    named = {9: "\\t", 10: "\\n", 13: "\\r", 34: '\\"', 39: "\\'", 92: "\\\\"}
+    shown = "".join(named.get(it, chr(it) if 32 <= it < 127 else f"\\x{it:02x}") for it in line[:200])
+    if len(line) <= 200 and is_text(line) and not any(unicodedata.category(it) == "Cc" for it in line.decode()):
+        shown = line.decode()
+    cut = ".." * (len(line) > 200)
+    return f"{name}: line {place} is not in the dictionary: '{shown}'{cut}; --missing gives such lines the code {MISSING}"
 
 
-def of_another(name, table):
-    """What is said of a column of another dictionary."""
-    return f"{name}: a column of another dictionary than {table}; name the one that it was written with"
-
-
-def commands(table, name):
+def commands(*words):
     """Each command that reads a column, with its status after an error. All but the first and the last may trust their files."""
     return [
-        (["decode", table, name], 1), (["rows", table, name, "0"], 1), (["count", table, name], 1),
-        (["match", table, name, "a"], 2), (["match", "--count", "--invert", table, name, "a"], 2), (["check", table, name], 1),
+        (["decode", *words], 1), (["rows", *words, "0"], 1), (["count", *words], 1), (["match", *words, "a"], 2),
+        (["match", "--count", "--invert", *words, "a"], 2), (["check", *words], 1),
     ]
 
 
-def trusted(words):
-    return [words[0], "--trusted", *words[1:]]
-
-
-# What the program says of whole columns, and what a plain list of their lines does. A missing line is nothing.
-
-
 def with_text(lines, text):
+    """The lines, with a text in place of those that are missing, which are nothing."""
     return ended(text if it is None else it for it in lines)
-
-
-def counted(lines, strings, by_symbol):
-    """What `count` writes: of missing lines, which are nothing, the number alone."""
-    counts = Counter(lines)
-    order = sorted((it for it in strings if counts[it]), key=lambda it: 0 if by_symbol else -counts[it])
-    return b"".join(b"%d\t%s\n" % (counts[it], it) for it in order) + b"%d\n" % counts[None] * bool(counts[None])
 
 
 def check_match(tool, table, lines, words, options):
@@ -91,13 +66,13 @@ def check_rows(tool, chance, table, lines, options):
     for row in (len(lines), 2**32, 2**64 - 1):
         told = said(1, f"column: no row {row}: there are {len(lines)} rows, counted from 0")
         assert tool(*words, "column", *typed, str(row)) == told == tool(*words, "column", f"0-{row}")
-    check_missing(tool, ["rows", *options, table, "column", *typed], next((it for it in rows if lines[it] is None), None), wanted)
+    check_missing(tool, ["rows", *options, table, "column", *typed], [it for it in rows if lines[it] is None], wanted)
 
 
-def check_missing(tool, words, row, wanted):
+def check_missing(tool, words, rows, wanted):
     """Without a text for missing lines, the first of them is an error."""
-    told = said(1, f"column: row {row} is missing: its line wasn't in the dictionary; --missing TEXT gives it a line")
-    assert tool(*words) == (wanted if row is None else told)
+    told = (f"column: row {it} is missing: its line wasn't in the dictionary; --missing TEXT gives it a line" for it in rows[:1])
+    assert tool(*words) == (said(1, *told) if rows else wanted)
 
 
 def check_column(tool, chance, table, whole, lines):
@@ -105,12 +80,15 @@ def check_column(tool, chance, table, whole, lines):
     wanted, strings = wrote(with_text(lines, b"none")), whole.strings
     assert tool("decode", "--missing", "none", table, "column") == wanted
     assert tool("decode", "--missing", "none", table, given=read("column")) == wanted
-    check_missing(tool, ["decode", table, "column"], lines.index(None) if None in lines else None, wanted)
-    assert tool("count", "--by-symbol", table, "column") == wrote(counted(lines, strings, True))
+    check_missing(tool, ["decode", table, "column"], [row for row, it in enumerate(lines) if it is None], wanted)
+    counts = Counter(lines)
+    counted = [(it, b"%d\t%s\n" % (counts[it], it)) for it in strings if counts[it]]
+    by_count, missing = sorted(counted, key=lambda it: -counts[it[0]]), b"%d\n" % counts[None] * bool(counts[None])
+    assert tool("count", "--by-symbol", table, "column") == wrote(b"".join(it for _, it in counted) + missing)
     texts = [it for it in strings if it.isascii() and b"\0" not in it]
     some = chance.choices(texts, k=min(3, len(texts))) + [b"none of them"]
     for options in ((),) if os.path.isdir(table) else ((), ("--trusted",)):
-        assert tool("count", *options, table, "column") == wrote(counted(lines, strings, False))
+        assert tool("count", *options, table, "column") == wrote(b"".join(it for _, it in by_count) + missing)
         check_match(tool, table, lines, some, options)
         check_match(tool, table, lines, some[-1:], options)
         check_rows(tool, chance, table, lines, options)
@@ -118,43 +96,33 @@ def check_column(tool, chance, table, whole, lines):
     width = width_for(len(strings))
     stat = f"column\nkind {KINDS[whole.kind]}\nstrings {len(strings)}\nrows {len(lines)}\n"
     stat += f"missing {lines.count(None)}\nwidth {width}\nbytes {128 + width * len(lines)}\n"
-    status, written, told = tool("stat", "column")
-    assert (status, told, written.startswith(stat.encode()), whole.name.encode() in written) == (0, [], True, True)
-
-
-def check_codes(tool, name, lines, some, wanted):
-    """Lines become codes, and codes lines. Of some of the lines, those that are nothing are missing ones, whose codes are
-    wanted."""
-    codes = packed(wanted(lines))
-    assert tool("encode", "--raw", name, "lines") == wrote(codes) == tool("encode", "--raw", name, given=ended(lines))
-    assert tool("encode", "--raw", name, "lines", "lines", "-o", "codes") == DONE and read("codes") == codes * 2
-    assert tool("decode", "--raw", name, "codes", "-o", "plain") == DONE and read("plain") == ended(lines) * 2
-    assert tool("decode", "--raw", name, given=codes) == wrote(ended(lines))
-    codes = packed(wanted(some))
-    assert tool("encode", "--raw", "--missing", name, given=with_text(some, b"none of them")) == wrote(codes)
-    assert tool("decode", "--raw", "--missing", "none", name, given=codes) == wrote(with_text(some, b"none"))
+    assert tool("stat", "column") == wrote(f"{stat}identity {whole.name}\nshards {len(whole.shards)}\n".encode())
 
 
 def check_lines(tool, chance, lines, kind, count):
-    """Tries the commands on the column of lines, and on one with missing lines, with a dictionary in a file or in shards."""
-    whole, shards = dictionary_of(dict.fromkeys(lines), count or 1, kind), ["--shards", str(count)] if count else []
-    put(".", {"lines": ended(lines)})
-    wanted, freezes, name = whole.column(lines), ["freeze", "--kind", KINDS[kind], *shards, "-o"], f"dict{count}"
-    assert tool(*freezes, name, "--column", "column", "lines") == DONE and read("column") == wanted
-    assert test_shards.files_of(name) == whole.files()
-    assert tool(*freezes, f"{name}-again", "--column", "-", "--random-keys", given=ended(lines)) == wrote(wanted)
-    assert tool("encode", name, "-o", "other", "lines") == DONE and read("other") == wanted
-    assert tool("encode", f"{name}-again", given=ended(lines)) == wrote(wanted)
+    """Tries the commands on the column of lines, and on one with missing lines, with a dictionary in a file or in shards. Then lines
+    become columns and plain codes, and these lines."""
+    name, again, shards = f"dict{count}", f"again{count}", ["--shards", str(count)] if count else []
+    whole = test_shards.check_freeze(tool, name, lines, kind, count)
+    freezes = ["freeze", "--kind", KINDS[kind], *shards, "-o", again, "--column", "-", "--random-keys"]
+    assert tool(*freezes, given=ended(lines)) == wrote(whole.column(lines)) == tool("encode", again, given=ended(lines))
+    os.replace(f"{name}.column", "column")
     check_column(tool, chance, name, whole, lines)
     some = [it if chance.random() < 0.9 else None for it in lines]
-    data, wanted = with_text(some, b"none of them"), whole.column(some)
-    assert tool("encode", "--missing", name, given=data) == wrote(wanted)
-    assert tool("encode", "--missing", name, "-o", "column", given=data) == DONE and read("column") == wanted
+    data, all_lines = with_text(some, b"none of them"), f"{name}.lines"
+    assert tool("encode", "--missing", name, "-o", "column", given=data) == DONE and read("column") == whole.column(some)
     check_column(tool, chance, name, whole, some)
-    check_codes(tool, name, lines, some, lambda lines: encoded(whole.strings, lines))
-    if None in some:
-        told = missing_line("standard input", some.index(None) + 1, b"none of them")
-        assert all(tool.refuses(1, told, "encode", *raw, name, "-o", "out", given=data) for raw in ([], ["--raw"]))
+    for raw, coded in (([], whole.column), (["--raw"], lambda some: packed(encoded(whole.strings, some)))):
+        words, wanted = ["encode", *raw, name], coded(lines)
+        assert tool(*words, all_lines) == wrote(wanted) == tool(*words, given=ended(lines))
+        assert tool(*words, all_lines, all_lines, "-o", "codes") == DONE and read("codes") == coded(lines * 2)
+        assert tool("decode", *raw, name, "codes", "-o", "plain") == DONE and read("plain") == ended(lines * 2)
+        assert tool("decode", *raw, name, given=wanted) == wrote(ended(lines))
+        assert tool(*words, "--missing", given=data) == wrote(coded(some))
+        assert tool("decode", *raw, "--missing", "none", name, given=coded(some)) == wrote(with_text(some, b"none"))
+        if None in some:
+            told = missing_line("standard input", some.index(None) + 1, b"none of them")
+            assert tool.refuses(1, told, *words, "-o", "out", given=data)
     assert not left()
 
 
@@ -182,16 +150,14 @@ def test_large_sizes(tool, size, kind):
     assert size > 100_000 or not check_lines(tool, chance, [*itertools.chain(*parts)], kind, None)
 
 
-def test_any_parts(tool):
+FEW_LINES = st.lists(st.binary(max_size=3).filter(lambda it: b"\n" not in it), max_size=12)
+
+
+@settings(max_examples=20)
+@given(st.lists(FEW_LINES, min_size=1, max_size=5), st.integers(0, 2**32), st.integers(1, 9))
+def test_any_parts(tool, parts, seed, count):
     """Few different lines, so that many are equal."""
-    lines = st.lists(st.binary(max_size=3).filter(lambda it: b"\n" not in it), max_size=12)
-
-    @settings(max_examples=20)
-    @given(st.lists(lines, min_size=1, max_size=5), st.integers(0, 2**32), st.integers(1, 9))
-    def each(parts, seed, count):
-        check_all(tool, random.Random(seed), parts, BYTES, [count])
-
-    each()
+    check_all(tool, random.Random(seed), parts, BYTES, [count])
 
 
 FEW = [b"a", b"bb", b""]
@@ -203,35 +169,31 @@ OTHERS = {
 
 def test_other_dictionaries(tool):
     """A column is one of no other dictionary: the same strings in the same order are another one if they are in other files."""
-    *_, whole = made()
-    put(".", OTHERS | {"column": column(id_of(freeze(FEW)), [0, 1, 2, 0, MISSING])})
-    counts = {"fewer": 2, "together": 3, "alone": 1}
-    folders = {name: dictionary_of(whole.strings, count) for name, count in counts.items()}
-    for name, other in (folders | {"texts": whole._replace(kind=TEXT)}).items():
-        put(name, other.files())
+    made()
+    put(".", OTHERS | {"column": dictionary_of(FEW).column([*FEW, b"a", None])})
+    put("texts", WHOLE._replace(kind=TEXT).files())
+    for name, count in (("fewer", 2), ("together", 3), ("alone", 1)):
+        put(name, dictionary_of(WHOLE.strings, count).files())
     assert tool("check", "whole", "whole.column") == DONE
     tables = "0", "fewer", "texts", "together", "alone", "alone/0.dict"
     for table, name in (*((it, "column") for it in OTHERS), *((it, "whole.column") for it in tables)):
-        told, is_folder = of_another(name, table), os.path.isdir(table)
+        told, is_folder = other_dictionary(name, table), os.path.isdir(table)
         for words, status in commands(table, name):
             assert tool(*words) == said(status, told)
-        for words, status in commands(table, name)[1:5]:
-            assert tool(*trusted(words)) == (said(2, f"{table}: {TRUSTED_FOLDER}") if is_folder else said(status, told))
+        for words, status in commands("--trusted", table, name)[1:5]:
+            assert tool(*words) == (said(2, f"{table}: {TRUSTED_FOLDER}") if is_folder else said(status, told))
         assert tool.refuses(1, told, "decode", table, name, "-o", "out")
 
 
 def test_maps_are_columns(tool):
     """A map of a plain dictionary is a column of the merged one, and that of a shard is one of no folder."""
-    one, *_ = made()
+    made()
     part = dictionary_of(FEW)
     put(".", {"part": freeze(FEW)})
     assert tool("merge", "part", "--shards", "3", "-o", "shared", "--maps", "others") == DONE
     assert tool("decode", "shared", f"others/{part.map_name()}") == wrote(ended(FEW))
-    for words, status in commands("whole", f"maps/{one.map_name(1)}"):
+    for words, status in commands("whole", f"maps/{ONE.map_name(1)}"):
         assert tool(*words)[:2] == (status, b"")
-
-
-# Lines that are missing.
 
 
 LONG = [b"x" * count for count in (200, 201, 65_536, 200_000)] + [b"\xc3\xa9" * 100, b"\xc3\xa9" * 101]
@@ -245,23 +207,16 @@ ODD = [b"\xff'\"\\", b"a\tb", b"\0", "é".encode(), b"a" * 70_000 + b"\n" + b"b"
 def test_missing_lines(tool, data, place):
     strings, lines = [b"a", b"", b"ccc"], lines_of(data)
     put(".", {"table": freeze(strings), "lines": data})
-    wanted, column = packed(encoded(strings, lines)), dictionary_of(strings).column(lines)
-    status, written, told = tool("encode", "--raw", "table", given=data)
-    assert (status, told) == said(1, missing_line("standard input", place, lines[place - 1]))[::2]
-    assert wanted[: 4 * place - 4].startswith(written)
-    for raw in ([], ["--raw"]):
-        assert tool.refuses(1, missing_line("lines", place, lines[place - 1]), "encode", *raw, "table", "lines", "-o", "out")
-    assert tool("encode", "table", given=data) == said(1, missing_line("standard input", place, lines[place - 1]))
-    assert tool("encode", "--raw", "--missing", "table", given=data) == wrote(wanted)
-    assert tool("encode", "--missing", "table", given=data) == wrote(column)
-    again = wrote(ended(it if it in strings else b"?" for it in lines))
-    assert tool("decode", "--raw", "--missing", "?", "table", given=wanted) == again
-    assert tool("decode", "--missing", "?", "table", given=column) == again
+    codes, again = packed(encoded(strings, lines)), wrote(ended(it if it in strings else b"?" for it in lines))
+    for raw, coded, begun in (([], dictionary_of(strings).column(lines), b""), (["--raw"], codes, codes[: 4 * place - 4])):
+        encodes, line = ["encode", *raw, "table"], lines[place - 1]
+        status, written, told = tool(*encodes, given=data)
+        assert (status, told) == said(1, missing_line("standard input", place, line))[::2] and begun.startswith(written)
+        assert tool.refuses(1, missing_line("lines", place, line), *encodes, "lines", "-o", "out")
+        assert tool(*encodes, "--missing", given=data) == wrote(coded)
+        assert tool("decode", *raw, "--missing", "?", "table", given=coded) == again
     told = said(1, f"standard input: code number {place} {LINELESS}")[::2]
-    assert tool("decode", "--raw", "table", given=wanted)[::2] == told
-
-
-# The page, and the worked example.
+    assert tool("decode", "--raw", "table", given=codes)[::2] == told
 
 
 def test_sessions_of_the_page(tool):

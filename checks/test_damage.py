@@ -3,20 +3,22 @@ has. hypothesis damages them, and finds the least damage by which a test fails."
 
 import os
 import re
+import struct
 import tempfile
 
 import pytest
 from formats import (
-    BYTES, COLUMN_HEADER, MISSING, TEXT, Damaged, Frozen, begins_as_column, column, column_faults, decoded, dictionary_of, ended,
-    freeze, id_of, packed, put, read_column, rebuilt, sealed, source_of, table_faults, unpacked,
+    BYTES, COLUMN_HEADER, MISSING, TEXT, Damaged, Frozen, Source, assembled, begins_as_column, column, column_faults, decoded,
+    dictionary_of, ended, freeze, id_of, packed, put, read_column, sealed, table_faults,
 )
 from hypothesis import given, seed, settings
 from hypothesis import strategies as st
 from test_answers import NOT_ONE
-from test_columns import commands, of_another, trusted
+from test_columns import commands
 from test_tables import LISTS, table_of
-from tool import NAME, said
+from tool import NAME, other_dictionary, said
 
+# What messages say of faults; # is a number.
 FAULTS = {
     "not a frozen table": "magic", NOT_ONE: "magic", "the header is cut short": "header", "another version": "version",
     "an unknown kind": "kind", "a reserved byte isn't zero": "reserved", "too many strings": "too many",
@@ -27,33 +29,32 @@ FAULTS = {
     "the number of the shard isn't below the number of shards": "shard",
     "a column of version 1: encode its lines again": "old version", "a source of rows that can't be": "source",
     "damaged: it has another checksum": "damaged",
+    "string # isn't found at its symbol": "not found: #", "string # isn't UTF-8": "not UTF-8: #",
+    "row # has a code that is no symbol": "no string: #", "row # of a map is missing": "missing: #",
 }
-NUMBERED = (
-    (r"string (\d+) isn't found at its symbol", "not found"), (r"string (\d+) isn't UTF-8", "not UTF-8"),
-    (r"row (\d+) has a code that is no symbol", "no string"), (r"row (\d+) of a map is missing", "missing"),
-)
 # Where the numbers of a header are.
 FIELDS = (8, 12, 16, 24, 32, 40, 48, 52, 56, 64, 72, 80, 84, 88)
 # How many files one run of the program checks, and how many tests share the damaged files.
 BATCH, TURNS = 50, 16
 SMALL = [table_of(strings, seed) for strings in LISTS.values() for seed in (0, 1)]
 # Columns of each width, and a map, each with the table that it is of.
-COUNTS: dict[int, int] = {0: BYTES, 3: TEXT, 255: BYTES, 300: BYTES}
-DICTIONARIES = [dictionary_of([b"%d" % it for it in range(count)], 1, kind) for count, kind in COUNTS.items()]
-COLUMNS = [
-    (it.files()["0.dict"], column(it.id, [*range(0, len(it.strings), max(1, len(it.strings) // 7)), MISSING, MISSING]))
-    for it in DICTIONARIES
+DICTIONARIES = [
+    dictionary_of([b"%d" % it for it in range(count)], 1, TEXT if count == 3 else BYTES) for count in (0, 3, 255, 300)
 ]
-COLUMNS.append((COLUMNS[1][0], column(DICTIONARIES[1].id, [2, 0], source_of(DICTIONARIES[2]))))
+COLUMNS = [(it.files()["0.dict"], it.column([*it.strings[:: max(1, len(it.strings) // 7)], None, None])) for it in DICTIONARIES]
+COLUMNS.append((COLUMNS[1][0], column(DICTIONARIES[1].id, [2, 0], Source(1, BYTES, DICTIONARIES[2].set))))
 
 
 def fault_of(message):
     """The fault that a message names."""
     message = re.sub("^a (frozen table|column) of (?=an)", "", message)
-    for pattern, fault in NUMBERED:
-        if found := re.fullmatch(pattern, message):
-            return f"{fault}: {found[1]}"
-    return FAULTS.get(message, message)
+    [number] = re.findall(r"^(?:string|row) (\d+) ", message) or ["#"]
+    return FAULTS.get(message.replace(number, "#", 1), message).replace("#", number)
+
+
+def is_right(message, faults, wanted=None):
+    """Whether a message names one of the faults, or is as wanted if there are none."""
+    return bool(message) and fault_of(message) in faults if faults else message == wanted
 
 
 @st.composite
@@ -100,17 +101,19 @@ def reported(tool, names, before=()):
 def check_tables(tool, files):
     names = {str(number): data for number, data in enumerate(files)}
     put(".", names)
-    messages, has_table = reported(tool, names), False
+    messages, wanted = reported(tool, names), "a column, and no dictionary before it; name its dictionary first"
     for name, data in names.items():
         faults, message = table_faults(data), messages.get(name)
         if begins_as_column(data):
             # It is checked as a column of the last file before it that doesn't begin so.
-            assert message == (NOT_ONE if has_table else "a column, and no dictionary before it; name its dictionary first")
+            assert message == wanted
             continue
-        has_table = True
-        assert message and fault_of(message) in faults if faults else message is None, (message, faults[:3], data.hex())
-        # A table is fixed by its kind, keys, strings and pilots.
-        assert faults or rebuilt(Frozen(data)) == data, data.hex()
+        wanted = NOT_ONE
+        assert is_right(message, faults), (message, faults[:3], data.hex())
+        if not faults:
+            # A table is fixed by its kind, keys, strings, pilots and place in its set.
+            table = Frozen(data, True)
+            assert assembled([*table], table.pilots, table.header) == data, data.hex()
 
 
 def check_columns(tool, table, files):
@@ -119,21 +122,18 @@ def check_columns(tool, table, files):
     names = [name for name, data in named.items() if begins_as_column(data)]
     messages = reported(tool, names, ["table"])
     for name, data in named.items():
-        faults, message = column_faults(data), messages.get(name)
-        another = of_another(name, "table")
+        faults, start = column_faults(data), f"{NAME}: {name}: "
         is_other = not faults and (read_column(data).id, read_column(data).shards) != (id_of(table), 1)
-        if name in names:
-            wanted = another.removeprefix(f"{name}: ") if is_other else None
-            is_right = message and fault_of(message) in faults if faults else message == wanted
-            assert is_right, (message, faults[:3], data.hex())
+        wanted = other_dictionary(name, "table").removeprefix(f"{name}: ") if is_other else None
+        about = messages.get(name), faults[:3], data.hex()
+        assert name not in names or is_right(messages.get(name), faults, wanted), about
         if faults or is_other:
             # A command is refused by its name, and writes nothing; with trusted bytes it may go on.
             words, status = commands("table", name)[1 + int(name) % 4]
             ended_as, written, (told,) = tool(*words)
-            start, _, fault = told.removeprefix(f"{NAME}: ").partition(": ")
-            is_right = (fault_of(fault) in faults if faults else told == f"{NAME}: {another}") and start == name
-            assert (ended_as, written, is_right) == (status, b"", True), (words, told, faults[:3], data.hex())
-            assert tool(*trusted(words))[0] in (0, 1, 2), data.hex()
+            is_named = told.startswith(start) and is_right(told.removeprefix(start), faults, wanted)
+            assert (ended_as, written, is_named) == (status, b"", True), (words, told, *about)
+            assert tool(words[0], "--trusted", *words[1:])[0] in (0, 1, 2), about
 
 
 @pytest.fixture(autouse=True)
@@ -188,17 +188,14 @@ def test_damaged(tool, request, check, most, files, turn):
 STRINGS = [b"%d" % it for it in range(200)]
 
 
-def translated(translate, data):
-    """What the codes before the first fault become, and the fault, if there is one."""
-    codes, fault = unpacked(data[: len(data) // 4 * 4]), None
+def translated(data, text):
+    """The lines of the codes before the first fault, and what is said of that, if there is one."""
+    codes = [it for (it,) in struct.iter_unpack("<I", data[: len(data) // 4 * 4])]
     try:
-        unpacked(data)
+        return ended(decoded(STRINGS, codes, text)), [f"code number {len(codes) + 1} is cut short"] * (len(data) % 4 > 0)
     except Damaged as found:
-        fault = found
-    try:
-        return translate(codes), fault
-    except Damaged as found:
-        return translate(codes[: found.args[0] - 1]), found
+        place, what = found.args
+        return ended(decoded(STRINGS, codes[: place - 1], text)), [f"code number {place} {what}"]
 
 
 def test_damaged_codes(tool):
@@ -212,13 +209,11 @@ def test_damaged_codes(tool):
         given_codes = packed(codes * times)
         given_codes = data.draw(damaged(given_codes, [b""])) if data.draw(st.booleans()) else given_codes
         put(".", {"codes": given_codes})
-        for text in (None, b"?"):
-            words = ["decode", "--raw", *([] if text is None else ["--missing", "?"]), "table"]
+        for text, missing in ((None, []), (b"?", ["--missing", "?"])):
+            words, (wanted, faults) = ["decode", "--raw", *missing, "table"], translated(given_codes, text)
             status, written, told = tool(*words, given=given_codes)
-            wanted, fault = translated(lambda codes: ended(decoded(STRINGS, codes, text)), given_codes)
-            message = [f": code number {fault.args[0]} {fault.args[1]}"] if fault else []
-            assert (status, told) == said(int(bool(fault)), *(f"standard input{it}" for it in message))[::2]
-            assert wanted.startswith(written) if fault else wanted == written
-            assert not fault or tool.refuses(1, f"codes{message[0]}", *words, "codes", "-o", "out")
+            assert (status, told) == said(len(faults), *(f"standard input: {it}" for it in faults))[::2]
+            assert wanted.startswith(written) if faults else wanted == written
+            assert not faults or tool.refuses(1, f"codes: {faults[0]}", *words, "codes", "-o", "out")
 
     each()

@@ -1,32 +1,27 @@
 """What `intaglio_dict` makes of dictionaries in shards: parts that are frozen, merged and renumbered, files that don't belong
 together, and histories in which files are replaced, and processes killed."""
 
+import contextlib
 import itertools
 import os
 import random
 import re
 import shutil
 import subprocess
-import time
 from pathlib import Path
 from typing import Any
 
 import pytest
 from formats import (
-    CHECKSUM, KINDS, TEXT, Damaged, Dictionary, column, dictionary_of, ended, files_in, freeze, map_of, maps_of, merge_of, placed,
-    put, read_column, read_dictionary,
+    BYTES, COLUMN_HEADER, KINDS, TEXT, Damaged, Id, column, dictionary_of, ended, files_in, freeze, map_of, maps_of, merge_of,
+    placed, put, read_column, read_dictionary,
 )
 from test_tables import check_commands
-from tool import DONE, NAME, TRUSTED_FOLDER, WAS, left, made, read, said, wrote
+from tool import DONE, NAME, ONE, ROWS, TRUSTED_FOLDER, TWO, WAS, WHOLE, made, other_dictionary, read, said, seen, wrote
 
 NO_FILE, CUT = "No such file or directory", "the file is truncated"
-NOT_WHOLE = "0: shard 0 of 3; merge it by --shard, or name folders of as many shards each, without --shards"
 OF_ANOTHER_SET = "whole/1.dict: of another set than whole/0.dict; write both again"
-IDENTITY, NOT_FOUND = "the identity isn't that of the strings", r"string \d+ isn't found at its symbol"
-MISPLACED = "string 0 belongs to another shard, or there is another number of shards"
-CHANGED = "damaged: it has another checksum"
-ELSEWHERE = "leads from another dictionary than that in its name"
-OTHER_SET = bytes(range(16))
+OTHER, OTHER_SET = merge_of([TWO, ONE]), bytes(range(16))
 
 
 def files_of(path):
@@ -34,21 +29,14 @@ def files_of(path):
     return files_in(path) or {"0.dict": read(path)}
 
 
-def all_files():
-    return {str(it): it.read_bytes() for it in Path().rglob("*") if it.is_file()}
-
-
-def refused(tool, status, message, *words):
+def refused(tool, status, message, words):
     """Checks that the command says this, which is a pattern. Returns the files that it changed."""
     put(".", {"out": WAS})
-    before = all_files()
-    ended_as, written, told = tool(*words)
+    before = seen()
+    ended_as, written, told = tool(*words.split())
     is_said = re.fullmatch(f"{NAME}: {message}", "\n".join(told))
     assert is_said and (ended_as, written) == (status, b""), (words, ended_as, written, told, message)
-    return {path for path, _ in before.items() ^ all_files().items()}
-
-
-# Parts that are frozen, merged and renumbered.
+    return {path for path, _ in before.items() ^ seen().items() if not os.path.isdir(path)}
 
 
 def check_freeze(tool, part, lines, kind, count):
@@ -61,38 +49,32 @@ def check_freeze(tool, part, lines, kind, count):
     return wanted
 
 
-def check_merge(tool, parts, count):
-    """Merges dictionaries to `whole`, those in shards one shard after the other, and once more all at once: to the same, or if
-    they are files to shards. Returns the merged one."""
-    names, whole = [*map(str, range(len(parts)))], merge_of(parts)
-    again, shards = (whole, []) if count else (merge_of(parts, 3), ["--shards", "3"])
+def check_parts(tool, parts, kind, count):
+    """Tries the three steps on the lines of parts, whose dictionaries are files, or folders of so many shards, which are merged one
+    after the other. Once more all are merged at once: to the same, or files to shards."""
+    names = [*map(str, range(len(parts)))]
+    for name in ("maps", "others", "again", "whole", *names):
+        shutil.rmtree(name) if os.path.isdir(name) else Path(name).unlink(missing_ok=True)
+    of_parts = [check_freeze(tool, *it, kind, count) for it in zip(names, parts)]
+    whole = merge_of(of_parts)
+    again, shards = (whole, []) if count else (merge_of(of_parts, 3), ["--shards", "3"])
     for shard in reversed(range(count or 0)):
         some = [f"{it}/{shard}.dict" if shard % 2 else it for it in names]
         assert tool("merge", "--shard", str(shard), *some, "-o", "whole", "--maps", "maps") == DONE
     assert count or tool("merge", *names, "-o", "whole", "--maps", "maps") == DONE
     assert tool("merge", *names, *shards, "-o", "again", "--maps", "others") == DONE
     for name, maps, wanted in (("whole", "maps", whole), ("again", "others", again)):
-        assert files_of(name) == wanted.files() and files_in(maps) == maps_of(parts, wanted) and read_dictionary(name) == wanted
-    return whole
-
-
-def check_parts(tool, parts, kind, count):
-    """Tries the three steps on the lines of parts, whose dictionaries are files, or folders of so many shards. Returns the merged
-    dictionary."""
-    names = [*map(str, range(len(parts)))]
-    for name in ("maps", "others", "again", "whole", *names):
-        shutil.rmtree(name) if os.path.isdir(name) else Path(name).unlink(missing_ok=True)
-    whole = check_merge(tool, [check_freeze(tool, *it, kind, count) for it in zip(names, parts)], count)
+        assert files_of(name) == wanted.files() and read_dictionary(name) == wanted
+        assert files_in(maps) == maps_of(of_parts, wanted)
     for name, lines in zip(names, parts):
-        wanted, renumber = whole.column(lines), ["renumber", "--maps", "maps", f"{name}.column"]
-        assert tool(*renumber, "-o", f"{name}.whole") == DONE and read(f"{name}.whole") == wanted
-        assert tool(*renumber, "--into", "whole") == wrote(wanted) == tool("encode", "whole", f"{name}.lines")
+        column, renumber = whole.column(lines), ["renumber", "--maps", "maps", f"{name}.column"]
+        assert tool(*renumber, "-o", f"{name}.whole") == DONE and read(f"{name}.whole") == column
+        assert tool(*renumber, "--into", "whole") == wrote(column) == tool("encode", "whole", f"{name}.lines")
     assert tool("decode", "whole", *(f"{it}.whole" for it in names)) == wrote(ended(itertools.chain(*parts)))
     check_commands(tool, "whole", whole)
     for command in ("find", "get") if count else ():
         assert tool(command, "--trusted", "whole", given=b"0\n") == said(2, f"whole: {TRUSTED_FOLDER}")
-    assert not any(left(it) for it in (".", "maps", *(it for it in ("whole", *names) if os.path.isdir(it))))
-    return whole
+    assert not [*Path().rglob("*.new")]
 
 
 @pytest.mark.parametrize("count", [1, 4])
@@ -122,41 +104,35 @@ def test_nested_merges(tool, count):
 
 def test_folders_that_are_written_again(tool):
     """Shards of another set are replaced. Equal parts have one set, and one map."""
-    one, two, whole = made()
-    other, same = merge_of([two, one]), merge_of([one] * 3)
-    put("same", one.files(5, 6))
+    made()
+    same = merge_of([ONE] * 3)
+    put("same", ONE.files(5, 6))
     assert tool("merge", "0", "same", "0", "-o", "whole", "--maps", "others") == DONE
-    assert files_in("whole") == same.files() and files_in("others") == maps_of([one], same)
-    assert tool("merge", "1", "0", "-o", "whole") == DONE and files_in("whole") == other.files()
+    assert files_in("whole") == same.files() and files_in("others") == maps_of([ONE], same)
+    assert tool("merge", "1", "0", "-o", "whole") == DONE and files_in("whole") == OTHER.files()
     for shard, told in ((0, OF_ANOTHER_SET), (1, OF_ANOTHER_SET.replace("1", "2")), (2, None)):
         assert tool("merge", "--shard", str(shard), "0", "1", "-o", "whole") == DONE
         assert tool("check", "whole") == (said(1, told) if told else DONE)
-    assert files_in("whole") == whole.files()
+    assert files_in("whole") == WHOLE.files()
     # (one shard alone is a table with symbols of its own, and has no column)
-    check_commands(tool, "whole/2.dict", whole, 2)
+    check_commands(tool, "whole/2.dict", WHOLE, 2)
 
 
-# Files that are damaged, or don't belong together. Messages are patterns.
-
-
-def another(whole, count=3, kind=0):
-    """The shard of another dictionary with the same strings."""
-    return dictionary_of(whole.strings, count, kind).files()["1.dict"]
-
-
-# What becomes of whole/1.dict, what is said of it, and what by a merge, which reads shard by shard.
+# What becomes of whole/1.dict, what is said of it, which is a pattern, and what by a merge, which reads shard by shard.
+SHARD = WHOLE.files()["1.dict"]
 DAMAGED: list[tuple[Any, ...]] = [
-    (lambda *_: None, f"whole/1.dict: {NO_FILE}"), (lambda *_: b"x" * 100, "whole/1.dict: not a frozen table"),
-    (lambda one, two, _: merge_of([two, one]).files()["1.dict"], OF_ANOTHER_SET),
-    (lambda one, two, _: merge_of([one]).files()["1.dict"], OF_ANOTHER_SET),
-    (lambda *it: another(it[2]), OF_ANOTHER_SET),
-    (lambda *it: another(it[2], 5), OF_ANOTHER_SET, "0: shard 1 of 3, and whole has 5 shards"),
-    (lambda *it: Dictionary(TEXT, *it[2][1:]).files()["1.dict"], OF_ANOTHER_SET),
-    (lambda *it: it[2].files()["0.dict"], "whole/1.dict: shard 0 of 3, not shard 1"),
-    (lambda *it: it[2].files()["1.dict"][:-1], f"whole/1.dict: {CUT}"),
-    (lambda *it: it[2].files()["1.dict"][:70], f"whole/1.dict: {CUT}"),
-    (lambda *it: it[2].files()["1.dict"][:-1] + b"x", f"whole/1.dict: ({IDENTITY}|{NOT_FOUND})"),
-    (lambda *it: placed(freeze(it[2].shards[2]), it[2].set, 3, 1), f"whole/1.dict: {MISPLACED}"),
+    (None, f"whole/1.dict: {NO_FILE}"), (b"x" * 100, "whole/1.dict: not a frozen table"),
+    (OTHER.files()["1.dict"], OF_ANOTHER_SET), (merge_of([ONE]).files()["1.dict"], OF_ANOTHER_SET),
+    (dictionary_of(WHOLE.strings, 3).files()["1.dict"], OF_ANOTHER_SET),
+    (dictionary_of(WHOLE.strings, 5).files()["1.dict"], OF_ANOTHER_SET, "0: shard 1 of 3, and whole has 5 shards"),
+    (WHOLE._replace(kind=TEXT).files()["1.dict"], OF_ANOTHER_SET),
+    (WHOLE.files()["0.dict"], "whole/1.dict: shard 0 of 3, not shard 1"),
+    (SHARD[:-1], f"whole/1.dict: {CUT}"), (SHARD[:70], f"whole/1.dict: {CUT}"),
+    (SHARD[:-1] + b"x", r"whole/1.dict: (the identity isn't that of the strings|string \d+ isn't found at its symbol)"),
+    (
+        placed(freeze(WHOLE.shards[2]), WHOLE.set, 3, 1),
+        "whole/1.dict: string 0 belongs to another shard, or there is another number of shards",
+    ),
 ]
 READERS = [
     "decode whole whole.column -o out", "encode whole -o out", "find whole", "get whole 0", "list whole", "check whole",
@@ -164,104 +140,84 @@ READERS = [
 ]
 
 
-@pytest.mark.parametrize("change, message, of_merge", [(*it, it[1])[:3] for it in DAMAGED], ids=itertools.count())
-def test_damaged_folders(tool, change, message, of_merge):
-    data = change(*made())
+@pytest.mark.parametrize("data, message, of_merge", [(*it, it[1])[:3] for it in DAMAGED], ids=itertools.count())
+def test_damaged_folders(tool, data, message, of_merge):
+    made()
     put("whole", {"1.dict": data}) if data else os.remove("whole/1.dict")
     with pytest.raises((Damaged, FileNotFoundError)):
         read_dictionary("whole")
     for words in READERS:
-        assert not refused(tool, 2 if words.startswith(("find", "match")) else 1, message, *words.split())
+        assert not refused(tool, 2 if words.startswith(("find", "match")) else 1, message, words)
     # (a merge names a part as it was named)
     told = of_merge.replace("whole/1.dict", "whole(/1.dict)?")
-    assert refused(tool, 1, told, *"merge whole 0 -o new".split()) == {"new/0.dict"}
+    assert refused(tool, 1, told, "merge whole 0 -o new") == {"new/0.dict"}
 
 
 def test_each_byte_of_a_header(tool):
     """Each is checked on an opening, where the folder has other shards."""
-    whole = made()[2].files()["1.dict"]
+    made()
     for at, change in itertools.product(range(128), (1, 0x80)):
-        put("whole", {"1.dict": whole[:at] + bytes([whole[at] ^ change]) + whole[at + 1 :]})
+        put("whole", {"1.dict": SHARD[:at] + bytes([SHARD[at] ^ change]) + SHARD[at + 1 :]})
         status, written, told = tool("check", "whole")
         assert (status, written, told[0].startswith(f"{NAME}: whole/1.dict: ")) == (1, b"", True), (at, told)
     # That of the first one isn't the number that the others have.
-    put("whole", made()[2].files() | {"0.dict": placed(read("whole/0.dict"), OTHER_SET, 4, 0)})
-    assert not refused(tool, 1, OF_ANOTHER_SET, "check", "whole")
+    put("whole", WHOLE.files() | {"0.dict": placed(read("whole/0.dict"), OTHER_SET, 4, 0)})
+    assert not refused(tool, 1, OF_ANOTHER_SET, "check whole")
 
 
 def test_a_damaged_set(tool):
     """One shard of a part says that it is of another set: it is merged, and the folder of what is written is refused."""
-    one, _, whole = made()
+    made()
     put("0", {"1.dict": placed(read("0/1.dict"), OTHER_SET, 3, 1)})
     assert tool("merge", "--shard", "1", "0", "1", "-o", "whole", "--maps", "maps") == DONE
-    assert not refused(tool, 1, OF_ANOTHER_SET, "list", "whole")
-    assert refused(tool, 1, OF_ANOTHER_SET.replace("whole", "0"), "merge", "0", "1", "-o", "new") == {"new/0.dict"}
-    assert files_in("maps").keys() > maps_of([one], whole).keys()
+    assert not refused(tool, 1, OF_ANOTHER_SET, "list whole")
+    assert refused(tool, 1, OF_ANOTHER_SET.replace("whole", "0"), "merge 0 1 -o new") == {"new/0.dict"}
+    assert files_in("maps").keys() > maps_of([ONE], WHOLE).keys()
 
 
-RENUMBER = "renumber --maps maps 0.column -o out".split()
+def changed(data, **fields):
+    """A column or a map with other fields."""
+    return column(*read_column(data)._replace(**fields))
 
 
-def of_many(data):
-    """A map that leads to as many strings as a dictionary can have."""
-    it = read_column(data)
-    return column(*it._replace(id=it.id._replace(strings=2**31)))
+def damaged(data):
+    """One with another first code, and the old checksum."""
+    return data[: COLUMN_HEADER.size] + bytes([data[COLUMN_HEADER.size] + 1]) + data[COLUMN_HEADER.size + 1 :]
 
 
-def with_other_codes(data):
-    """A column with another first code, and the old checksum."""
-    it = read_column(data)
-    changed = column(*it._replace(codes=[it.codes[0] + 1, *it.codes[1:]]))
-    return changed[: CHECKSUM.start] + data[CHECKSUM] + changed[CHECKSUM.stop :]
-
-
-def with_fewer_rows(data):
-    it = read_column(data)
-    return column(*it._replace(codes=it.codes[:-1]))
-
-
-# What becomes of files, or of the map of shard 1 of the first part, and what is said. {} is the name of a map, up to its number.
+RENUMBER, MAP, MAP_NAME = "renumber --maps maps 0.column -o out", map_of(ONE, WHOLE, 1), f"maps/{ONE.map_name(1)}"
+# Maps to as many strings as a dictionary can have.
+LARGE = {it: changed(data, id=Id(BYTES, 2**31, WHOLE.set)) for it, data in maps_of([ONE], WHOLE).items()}
+# What becomes of the map of shard 1 of the first part, or of several files, and what is said, which is a pattern: {} is the name
+# of a map, up to its number.
 CHANGED_MAPS = [
-    (lambda *_: None, "{}1.map: no such file; the dictionary of 0.column wasn't merged"),
-    (lambda *_: b"x" * 200, "{}1.map: not a column.*"),
-    (lambda one, two, whole: map_of(one, whole, 1)[:-1], "{}1.map: the codes are cut short"),
-    (lambda one, two, whole: with_other_codes(map_of(one, whole, 1)), f"{{}}1.map: {CHANGED}"),
-    (lambda one, two, whole: map_of(two, whole, 1), f"{{}}1.map: {ELSEWHERE}"),
-    (lambda one, two, whole: map_of(one, whole, 2), f"{{}}1.map: {ELSEWHERE}"),
-    (lambda one, two, whole: one.column(one.strings), f"{{}}1.map: {ELSEWHERE}"),
-    (lambda one, two, _: map_of(one, merge_of([two, one]), 1), "{}1.map: a map of another merge than {}0.map"),
-    (lambda one, two, whole: map_of(one, dictionary_of(whole.strings, 3), 1), "{}1.map: a map of another merge than {}0.map"),
-    (lambda one, two, whole: with_fewer_rows(map_of(one, whole, 1)), "0.column: the maps are those of another number of strings"),
-    (lambda *_: {"0.column": with_other_codes(read("0.column"))}, f"0.column: {CHANGED}"),
-    (
-        lambda one, two, whole: {f"maps/{name}": of_many(it) for name, it in maps_of([one], whole).items()},
-        "0.column: too many strings",
-    ),
+    (None, "{}1.map: no such file; the dictionary of 0.column wasn't merged"), (b"x" * 200, "{}1.map: not a column.*"),
+    (MAP[:-1], "{}1.map: the codes are cut short"), (damaged(MAP), "{}1.map: damaged: it has another checksum"),
+    *((it, "{}1.map: leads from another dictionary than that in its name")
+      for it in (map_of(TWO, WHOLE, 1), map_of(ONE, WHOLE, 2), ONE.column(ONE.strings))),
+    *((map_of(ONE, it, 1), "{}1.map: a map of another merge than {}0.map") for it in (OTHER, dictionary_of(WHOLE.strings, 3))),
+    (changed(MAP, codes=read_column(MAP).codes[:-1]), "0.column: the maps are those of another number of strings"),
+    ({"0.column": damaged(ONE.column(ROWS))}, "0.column: damaged: it has another checksum"),
+    ({f"maps/{name}": it for name, it in LARGE.items()}, "0.column: too many strings"),
 ]
 
 
-@pytest.mark.parametrize("change, message", CHANGED_MAPS)
-def test_changed_maps(tool, change, message):
-    one, two, whole = made()
-    column, wanted = read("0.column"), whole.column([*one.strings[::-3], None])
-    name, data = f"maps/{one.map_name(1)}", change(one, two, whole)
-    put(".", data if isinstance(data, dict) else {name: data}) if data else os.remove(name)
-    assert not refused(tool, 1, message.replace("{}", name[: -len("1.map")]), *RENUMBER)
-    put("maps", maps_of([one], whole))
-    put(".", {"0.column": column})
-    assert tool(*RENUMBER) == DONE and read("out") == wanted
+@pytest.mark.parametrize("data, message", CHANGED_MAPS, ids=itertools.count())
+def test_changed_maps(tool, data, message):
+    made()
+    put(".", data if isinstance(data, dict) else {MAP_NAME: data}) if data else os.remove(MAP_NAME)
+    assert not refused(tool, 1, message.replace("{}", MAP_NAME.removesuffix("1.map")), RENUMBER)
+    made()
+    assert tool(*RENUMBER.split()) == DONE and read("out") == WHOLE.column(ROWS)
 
 
 def test_maps_of_another_merge(tool):
     """If all maps are those of another merge, the column is one of its dictionary, and says so."""
-    one, two, _ = made()
-    other = merge_of([two, one])
-    assert tool("merge", "1", "0", "-o", "other", "--maps", "maps") == DONE and files_in("maps") == maps_of([two, one], other)
-    assert not refused(tool, 1, "maps: its maps lead to another dictionary than whole", *RENUMBER, "--into", "whole")
-    assert tool(*RENUMBER, "--into", "other") == DONE and read("out") == other.column([*one.strings[::-3], None])
-    assert tool("decode", "whole", "out") == said(
-        1, "out: a column of another dictionary than whole; name the one that it was written with"
-    )
+    made()
+    assert tool("merge", "1", "0", "-o", "other", "--maps", "maps") == DONE and files_in("maps") == maps_of([TWO, ONE], OTHER)
+    assert not refused(tool, 1, "maps: its maps lead to another dictionary than whole", f"{RENUMBER} --into whole")
+    assert tool(*RENUMBER.split(), "--into", "other") == DONE and read("out") == OTHER.column(ROWS)
+    assert tool("decode", "whole", "out") == said(1, other_dictionary("out", "whole"))
 
 
 # Commands, the status, and what is said. Nothing is written.
@@ -274,9 +230,8 @@ REFUSED = [
     ("merge --shard 1 0 five -o new", 1, "five: shard 1 of 5, and 0 has 3 shards"),
     ("merge 0 plain -o new", 1, "plain: shard 0 of 1, and 0 has 3 shards"),
     ("merge 0/1.dict 1/2.dict -o new --shard 1", 1, "1/2.dict: shard 2 of 3, not shard 1"),
-    *((words, 1, NOT_WHOLE) for words in (
-        "merge plain 0 -o new", "merge 0 1 --shards 3 -o new",
-    )),
+    *((it, 1, "0: shard 0 of 3; merge it by --shard, or name folders of as many shards each, without --shards")
+      for it in ("merge plain 0 -o new", "merge 0 1 --shards 3 -o new")),
     ("merge --shard 3 0 1 -o new", 1, f"0/3.dict: {NO_FILE}"), ("merge 0 absent -o new", 1, f"absent: {NO_FILE}"),
     ("merge --shard 1 0 . -o new", 1, f"\\./1\\.dict: {NO_FILE}"),
     ("renumber --maps maps absent -o out", 1, f"absent: {NO_FILE}"),
@@ -291,7 +246,7 @@ REFUSED = [
         ("merge 0 1 -o 1", "1"), ("merge --shard 1 0 1 -o 0", "0"), ("merge --shard 1 0/1.dict 1 -o 0", "0/1.dict"),
         ("merge 0 1 -o new --maps 1", "1"), ("freeze --shards 3 -o 0 0/lines", "0/lines"), ("merge link 1 -o 0", "link"),
         ("merge plain 0/0.dict -o new --maps 0", "0/0.dict"), ("merge --shards 2 0/0.dict -o 0", "0/0.dict"),
-        ("renumber --maps maps 0.column -o 0.column", "0.column"), ("renumber --maps maps 0.column -o maps/MAP", "maps/MAP"),
+        ("renumber --maps maps 0.column -o 0.column", "0.column"), (f"renumber --maps maps 0.column -o {MAP_NAME}", MAP_NAME),
         ("renumber --maps maps 0.column --into whole -o whole/0.dict", "whole/0.dict"),
         ("encode whole lines -o whole/0.dict", "whole/0.dict"), ("decode whole whole.column -o whole/1.dict", "whole/1.dict"),
     )),
@@ -300,36 +255,31 @@ REFUSED = [
 
 @pytest.mark.parametrize("words, status, message", REFUSED)
 def test_refusals(tool, words, status, message):
-    one, _, whole = made()
-    put("five", dictionary_of(one.strings, 5).files())
-    put(".", {"plain": freeze(one.strings), "0/lines": b"a\n", "lines": b"w1\n", "2.lines": ended(whole.shards[2])})
+    made()
+    put("five", dictionary_of(ONE.strings, 5).files())
+    put(".", {"plain": freeze(ONE.strings), "0/lines": b"a\n", "lines": b"w1\n", "2.lines": ended(WHOLE.shards[2])})
     os.symlink("0", "link")
-    words, message = (it.replace("MAP", one.map_name(1)) for it in (words, message))
-    assert not refused(tool, status, message, *words.split()) and not os.path.exists("new")
-
-
-# Histories: random steps on shared folders, some of which are killed. Whatever opens gives the lines.
+    assert not refused(tool, status, message, words) and not os.path.exists("new")
 
 
 class History:
-    """Folders a, b and c of parts, g, v and w of merges, and the lines of each column."""
+    """Random steps, some of which are killed, on folders a, b and c of parts, g, v and w of merges, and columns, whose lines it
+    knows. Whatever opens gives the lines."""
 
     def __init__(self, tool, seed):
         self.tool, self.chance, self.lines = tool, random.Random(seed), {}
         self.counts = self.chance.choice(([1], [2], [3], [2, 3], [1, 4], [5]))
         self.words = [b"w%d" % it for it in range(self.chance.choice((1, 3, 12)))]
         self.decoded = 0
-        for folder in ("maps", "other"):
-            os.mkdir(folder)
+        os.mkdir("maps")
+        os.mkdir("other")
 
     def run(self, *words):
         """Runs a command, of which one of ten is killed, or fails to write."""
         how = self.chance.random()
         if how < 0.05:
-            process = subprocess.Popen([self.tool.path, *words], stderr=subprocess.DEVNULL)
-            time.sleep(self.chance.random() * 0.01)
-            process.kill()
-            process.wait()
+            with contextlib.suppress(subprocess.TimeoutExpired):
+                subprocess.run([self.tool.path, *words], stderr=subprocess.DEVNULL, timeout=self.chance.random() * 0.01)
             return
         failing = {"LD_PRELOAD": self.tool.library, "FULL": str(self.chance.randrange(1, 6))} if how < 0.1 else {}
         status, _, told = self.tool(*words, **failing)
@@ -400,21 +350,18 @@ class History:
             is_there = False
         assert is_there == (self.tool("check", folder)[0] == 0), folder
 
-    def step(self):
+    def go(self):
         steps = {self.freeze: 10, self.merge: 40, self.move: 5, self.compose: 5, self.renumber: 15, self.decode: 25}
-        [step] = self.chance.choices([*steps], [*steps.values()])
-        step()
+        for step in self.chance.choices([*steps], [*steps.values()], k=60):
+            step()
+        return self.decoded
 
 
 @pytest.mark.parametrize("seed", range(8))
 def test_histories(tool, folder, seed, request):
     decoded = 0
     for turn in range(2 + request.config.getoption("rounds") // 5):
-        put(str(turn), {})
-        os.chdir(str(turn))
-        history = History(tool, 1000 * seed + turn)
-        for _ in range(60):
-            history.step()
-        decoded += history.decoded
-        os.chdir(folder)
+        os.mkdir(folder / str(turn))
+        os.chdir(folder / str(turn))
+        decoded += History(tool, 1000 * seed + turn).go()
     assert decoded
