@@ -18,8 +18,7 @@ Header = namedtuple(
     "Header", "magic version kind key0 key1 strings length own set shards shard reserved",
     defaults=(b"INTAGLIO", 2, BYTES, 0, 0, 0, 0, b"", b"", 1, 0, b""),
 )
-COLUMN_MAGIC, COLUMN_VERSION = bytes.fromhex("494e5489434f4c0a"), 2
-COLUMN_HEADER, CHECKSUM = struct.Struct("<8sII16sQQIIQII16sI36s"), slice(56, 64)
+COLUMN_MAGIC, COLUMN_HEADER = bytes.fromhex("494e5489434f4c0a"), struct.Struct("<8sII16sQQIIQII16sI36s")
 # What a dictionary is, with the identity of its set, and from which one the rows of a map come; the default is that of lines.
 Id = namedtuple("Id", "kind strings identity")
 Source = namedtuple("Source", "shards kind identity shard", defaults=(0, 0, bytes(16), 0))
@@ -67,9 +66,6 @@ def numbers(*given):
 def identity(tag, data):
     """The two hashes of bytes under the keys tag and 0, and tag and 1, in sixteen bytes."""
     return numbers(sip_hash(tag, 0, data), sip_hash(tag, 1, data))
-
-
-# Frozen tables.
 
 
 def header_of(table):
@@ -128,15 +124,15 @@ class Frozen(Sequence):
         return symbol if is_there else None
 
 
-def version_faults(data, known):
-    """What is wrong with the version, which stands behind the magic."""
+def version_faults(data):
+    """What is wrong with the version, which stands behind the magic, and is 2 of both formats."""
     version = int.from_bytes(data[8:12], "little")
-    return [{1: "old version"}.get(version, "version")] * (version != known)
+    return [{1: "old version"}.get(version, "version")] * (version != 2)
 
 
 def table_header_faults(data):
     """What is wrong with the header, and whether what follows it can be read."""
-    faults = ["magic"] * (data[:8] != Header().magic) + (version_faults(data, Header().version) if len(data) >= 12 else [])
+    faults = ["magic"] * (data[:8] != Header().magic) + (version_faults(data) if len(data) >= 12 else [])
     if len(data) < TABLE_HEADER.size:
         return [*faults, "truncated"], False
     header = header_of(data)
@@ -172,8 +168,7 @@ def is_text(string):
 
 
 def pilots_of(hashes):
-    """For each group the least pilot that gives its hashes places of their own, or nothing if there is none for a group. Groups
-    with more hashes come first."""
+    """For each group the least pilot that gives its hashes free places, larger groups first, or nothing if one has none."""
     at = Sections(len(hashes))
     members: list[list[int]] = [[] for _ in range(at.groups)]
     for number in hashes:
@@ -192,8 +187,7 @@ def pilots_of(hashes):
 
 
 def default_keys(strings):
-    """The keys if none are given, which are tried with the seven pairs after them: 0 and 0, and two hashes of all strings, each
-    after its length in eight bytes."""
+    """The keys if none are given: 0 and 0, and two hashes of all strings, each after its length in eight bytes."""
     yield 0, 0
     hashed = b"".join(numbers(len(it)) + it for it in strings)
     key0 = sip_hash(0, 0, hashed)
@@ -201,12 +195,11 @@ def default_keys(strings):
 
 
 def freeze(strings, kind=BYTES, key0=None, key1=0):
-    """The bytes of a frozen table of these strings, which must be distinct, or nothing if a string gets no place. If no keys are
-    given, they are the default ones."""
-    for first, second in default_keys(strings) if key0 is None else [(key0, key1)]:
-        for tried in [first + attempt & WORD for attempt in range(8)]:
-            if pilots := pilots_of([sip_hash(tried, second, it) for it in strings]):
-                return assembled(strings, pilots, Header(kind=kind, key0=tried, key1=second))
+    """The bytes of a frozen table of these strings, which must be distinct, or nothing if eight pairs of keys give no places."""
+    pairs = default_keys(strings) if key0 is None else [(key0, key1)]
+    for key0, key1 in ((first + attempt & WORD, second) for first, second in pairs for attempt in range(8)):
+        if pilots := pilots_of([sip_hash(key0, key1, it) for it in strings]):
+            return assembled(strings, pilots, Header(kind=kind, key0=key0, key1=key1))
     return None
 
 
@@ -236,9 +229,6 @@ def id_of_strings(strings, kind):
     return Id(kind, len(strings), identity(kind, struct.pack(f"<{len(strings)}I", *ends) + b"".join(strings)))
 
 
-# Columns.
-
-
 def width_for(count):
     """How many bytes a code has under a dictionary of so many strings."""
     return 1 if count <= 255 else 2 if count <= 65_535 else 4
@@ -248,7 +238,7 @@ def column(*given, **named):
     """The bytes of a column, with what `Column` has."""
     of, codes, source, shards = Column(*given, **named)
     width = width_for(of.strings)
-    to = (COLUMN_MAGIC, COLUMN_VERSION, of.kind, of.identity, of.strings, len(codes), width, shards)
+    to = (COLUMN_MAGIC, 2, of.kind, of.identity, of.strings, len(codes), width, shards)
     narrowed = (2 ** (8 * width) - 1 if it == MISSING else it for it in codes)
     return sealed(COLUMN_HEADER.pack(*to, 0, *source, b"") + struct.pack(f"<{len(codes)}{CODES[width]}", *narrowed))
 
@@ -267,7 +257,7 @@ def read_column(data):
 
 def sealed(data):
     """The bytes of a column with the checksum of the codes, and then of the header with zeros in place of the checksum."""
-    start, end, codes = data[: CHECKSUM.start], data[CHECKSUM.stop : COLUMN_HEADER.size], data[COLUMN_HEADER.size :]
+    start, end, codes = data[:56], data[64 : COLUMN_HEADER.size], data[COLUMN_HEADER.size :]
     return start + numbers(sip_hash(4, 0, codes + start + bytes(8) + end)) + end + codes
 
 
@@ -287,7 +277,7 @@ def column_header_faults(data):
     """What is wrong with the header, and whether what follows it can be read."""
     if len(data) < 12 or data[:8] != COLUMN_MAGIC:
         return ["magic"], False
-    if faults := version_faults(data, COLUMN_VERSION) or ["header"] * (len(data) < COLUMN_HEADER.size):
+    if faults := version_faults(data) or ["header"] * (len(data) < COLUMN_HEADER.size):
         return faults, False
     of, rows, width, shards, source, reserved = header_of_column(data)
     faults = ["kind"] * (of.kind > TEXT) + ["too many"] * (of.strings > MISSING) + ["width"] * (width != width_for(of.strings))
@@ -307,9 +297,6 @@ def column_faults(data):
     faults += ["damaged"] * (sealed(data) != data)
     faults += [f"no string: {row}" for row, code in enumerate(codes) if code >= of.strings and code != MISSING]
     return faults + [f"missing: {row}" for row, code in enumerate(codes) if code == MISSING and source.shards]
-
-
-# Plain codes, and lines.
 
 
 def packed(codes):
@@ -343,9 +330,6 @@ def decoded(values, codes, missing=None, fault="is no symbol"):
 
 # The codes under a map; missing ones stay so.
 renumbered = functools.partial(decoded, missing=MISSING, fault="isn't in the map")
-
-
-# Dictionaries of one shard or several, and maps.
 
 
 def shard_of(count, string):
@@ -382,9 +366,9 @@ class Dictionary(NamedTuple):
         tables = enumerate(freeze(it, self.kind, *keys) for it in self.shards)
         return {f"{shard}.dict": placed(it, self.set, len(self.shards), shard) for shard, it in tables}
 
-    def column(self, lines, source=Source()):
+    def column(self, lines):
         """The column of these lines, of which the missing ones are no strings."""
-        return column(self.id, encoded(self.strings, lines), source, len(self.shards))
+        return column(self.id, encoded(self.strings, lines), shards=len(self.shards))
 
 
 def placed(table, set, count, shard):
@@ -404,7 +388,7 @@ def dictionary_of(strings, count=1, kind=BYTES):
 
 
 def merge_of(parts, count=1):
-    """The dictionary to which parts in shards are merged shard by shard, or parts of one shard each in so many shards."""
+    """The dictionary to which parts are merged shard by shard, or parts of one shard each in so many shards."""
     kind = min(it.kind for it in parts)
     shards = [[*dict.fromkeys(itertools.chain(*each))] for each in zip(*(it.shards for it in parts))]
     if len(shards) == 1:
@@ -426,11 +410,10 @@ def maps_of(parts, whole):
 
 def read_dictionary(path):
     """The dictionary in a file or a folder, after all checks. Raises Damaged, or FileNotFoundError for a shard."""
-    path = Path(path)
-    tables = [Frozen((path / "0.dict" if path.is_dir() else path).read_bytes())]
+    is_folder = os.path.isdir(path)
+    tables = [Frozen((Path(path, "0.dict") if is_folder else Path(path)).read_bytes())]
     first = tables[0].header
-    if path.is_dir():
-        tables += (Frozen((path / f"{it}.dict").read_bytes()) for it in range(1, first.shards))
+    tables += (Frozen(Path(path, f"{it}.dict").read_bytes()) for it in range(1, first.shards if is_folder else 1))
     for number, table in enumerate(tables):
         if (table.kind, *table.header[8:11]) != (first.kind, first.set, len(tables), number):
             raise Damaged(number, "is another shard, or of another set, or one of several")
@@ -439,9 +422,10 @@ def read_dictionary(path):
     return Dictionary(first.kind, first.set, [[*it] for it in tables])
 
 
-def files_in(folder):
-    """All files of a folder, which may not be there."""
-    return {it: Path(folder, it).read_bytes() for it in os.listdir(folder)} if os.path.isdir(folder) else None
+def files_in(path):
+    """All files of a folder, the only file of a dictionary, or nothing if nothing is there."""
+    paths = {it: Path(path, it) for it in os.listdir(path)} if os.path.isdir(path) else {"0.dict": Path(path)}
+    return {name: it.read_bytes() for name, it in paths.items()} if os.path.exists(path) else None
 
 
 def put(folder, files):

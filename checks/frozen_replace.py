@@ -5,6 +5,7 @@
 --noisy writes to the standard streams meanwhile, as the rest of a program may while a file is written.
 """
 
+import contextlib
 import os
 import sys
 import types
@@ -20,10 +21,8 @@ from intaglio.frozen import replace
 
 def noisy_sync(file, sync=os.fsync):
     for stream in (1, 2):
-        try:
+        with contextlib.suppress(OSError):
             os.write(stream, b"noise")
-        except OSError:
-            pass
     sync(file)
 
 

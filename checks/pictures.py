@@ -1,12 +1,10 @@
 #!/usr/bin/env python3
-"""Draws the pictures of the pages by graphviz (a package of Debian): docs/crates.svg from crates.txt, docs/interning.svg from
-docs/interning.dot.
+"""Draws docs/crates.svg from crates.txt, and docs/interning.svg from docs/interning.dot, by graphviz.
 
     checks/pictures.py
 
-Where the reader's screen is dark, so is a picture. In crates.svg an arrow leads from a crate to one that it stands on, unless
-that is reached through another arrow. Crates of tests, examples and benchmarks aren't drawn. bench/plot.py draws the picture of
-bench. A picture holds the sum of what it was drawn from, which checks/consistency compares with what is there.
+In crates.svg an arrow leads from a crate to one that it stands on, unless that is reached through another arrow. Crates of tests,
+examples and benchmarks aren't drawn. A picture holds the sum of what it was drawn from, which checks/consistency compares.
 """
 
 import hashlib
@@ -50,8 +48,7 @@ def sources_of():
 
 
 def in_the_dark(svg, colours):
-    """The text of a picture with other colours where the reader's screen is dark. Its background is its own, so that it can be
-    read on any page."""
+    """The text of a picture with other colours where the reader's screen is dark."""
     rules = [
         f'[{part}="{light}"], [style*="{part}: {light}"] {{ {part}: {dark} !important }}'
         for light, dark in colours.items()
@@ -61,14 +58,18 @@ def in_the_dark(svg, colours):
     return re.sub(r"(<svg[^>]*>)", lambda it: f"{it[1]}\n{style}", svg, count=1)
 
 
-def mark(text):
-    return f"<!-- drawn from {hashlib.sha256((text + repr(DARK)).encode()).hexdigest()[:16]} by checks/pictures.py -->"
+def mark(data, by):
+    return f"<!-- drawn from {hashlib.sha256(data).hexdigest()[:16]} by {by} -->"
+
+
+def mark_of_page(text):
+    return mark((text + repr(DARK)).encode(), "checks/pictures.py")
 
 
 def wrong():
     """What is wrong with the pictures that are there."""
     for path, text in sources_of().items():
-        if not path.is_file() or mark(text) not in text_of(path):
+        if not path.is_file() or mark_of_page(text) not in text_of(path):
             yield f"{path.relative_to(TOP)}: isn't drawn from its source as that is: run checks/pictures.py"
     if mark_of_bench() not in text_of(TOP / "bench/choice.svg"):
         yield "bench/choice.svg: isn't drawn from bench/figures.txt as that is: run bench/plot.py"
@@ -76,15 +77,7 @@ def wrong():
 
 def mark_of_bench():
     """The last line of bench/choice.svg: the sum of what bench/plot.py draws it from."""
-    drawn_from = b"".join((TOP / "bench" / name).read_bytes() for name in ("figures.txt", "plot.py"))
-    return f"<!-- drawn from {hashlib.sha256(drawn_from).hexdigest()[:16]} by bench/plot.py -->"
-
-
-def draw(path, text):
-    drawn = subprocess.run(["dot", "-Tsvg"], input=text, capture_output=True, text=True, check=True).stdout
-    # (the version of graphviz doesn't belong in the file)
-    drawn = re.sub(r"(?s)<!DOCTYPE.*?>\s*|<!--.*?-->\s*", "", drawn).rstrip()
-    path.write_text(f"{in_the_dark(drawn, DARK)}\n{mark(text)}\n", encoding="utf-8")
+    return mark(b"".join((TOP / "bench" / name).read_bytes() for name in ("figures.txt", "plot.py")), "bench/plot.py")
 
 
 def main():
@@ -92,7 +85,10 @@ def main():
     if not shutil.which("dot"):
         sys.exit("checks/pictures.py needs graphviz: apt-get install graphviz")
     for path, text in sources_of().items():
-        draw(path, text)
+        drawn = subprocess.run(["dot", "-Tsvg"], input=text, capture_output=True, text=True, check=True).stdout
+        # (the version of graphviz doesn't belong in the file)
+        drawn = re.sub(r"(?s)<!DOCTYPE.*?>\s*|<!--.*?-->\s*", "", drawn).rstrip()
+        path.write_text(f"{in_the_dark(drawn, DARK)}\n{mark_of_page(text)}\n", encoding="utf-8")
 
 
 if __name__ == "__main__":

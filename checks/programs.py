@@ -15,7 +15,10 @@ def compiled(folder):
     """The library, as a compiler of the kit or of the machine makes it."""
     page = subprocess.run(["rt", "doc"], capture_output=True, text=True).stdout.strip()
     names = (os.path.join(os.path.dirname(page), "toolchain/bin/clang"), "clang", "cc", "gcc")
-    compiler, library = next(filter(None, map(shutil.which, names)), None) or sys.exit("no C compiler"), f"{folder}/refuse.so"
+    library = f"{folder}/refuse.so"
+    compiler = next((it for it in map(shutil.which, names) if it), None)
+    if not compiler:
+        sys.exit("no C compiler")
     subprocess.run([compiler, "-O2", "-fPIC", "-shared", "-nostdlib", "-o", library, f"{TOP}/checks/refuse.c"], check=True)
     return library
 

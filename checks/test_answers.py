@@ -3,10 +3,8 @@
 import shlex
 
 import pytest
-from formats import (
-    BYTES, MISSING, TEXT, column, dictionary_of, ended, files_in, freeze, id_of, map_of, packed, put,
-)
-from tool import DONE, ONE_STANDARD_INPUT, UNREAD, WORDS, also_output, said, wrote
+from formats import BYTES, TEXT, dictionary_of, ended, files_in, freeze, map_of, packed, put
+from tool import DONE, ONE_STANDARD_INPUT, UNREAD, WORDS, also_output, other_dictionary, said, wrote
 
 LINES, TABLE, NUMBERS = ended(WORDS), freeze(WORDS), ended(b"%d" % it for it in range(20))
 FEW, MERGED = [b"a", b"bb", b""], freeze([b"a", b"b", b"c"])
@@ -14,14 +12,13 @@ ONE, TWO = dictionary_of([b"a", b"b"]), dictionary_of([b"b", b"c", b"a"])
 RENUMBERED = TWO.column([b"b", b"a"])
 FILES = {
     "words": TABLE, "lines": LINES, "seventh": WORDS[7], "one": ONE.files()["0.dict"], "two": TWO.files()["0.dict"],
-    "codes": packed([1, 0]), "part": ONE.column([b"b", b"a"]), "column": column(id_of(freeze(FEW)), [0, 1, 2, 0, MISSING]),
+    "codes": packed([1, 0]), "part": ONE.column([b"b", b"a"]), "column": dictionary_of(FEW).column([*FEW, b"a", None]),
     "few": freeze(FEW, BYTES, 5, 6), "other": freeze(FEW, TEXT), "no": b"x" * 100, "text": "é\nb".encode(),
     "wrong": b"a\n\n\xc3\nb\n\xff\n", "damaged": freeze(FEW)[:-1], "cut": bytes.fromhex("494e548957b8b7"),
     ONE.map_name(): map_of(ONE, TWO), "old": TABLE[:8] + b"\1" + TABLE[9:],
     "oldcolumn": ONE.column([])[:8] + b"\1" + ONE.column([])[9:],
 }
 NOT_ONE = "not a column; encode writes one, and freeze and merge do"
-OF_OTHER = "column: a column of another dictionary than other; name the one that it was written with"
 NO_LINE_END, BOTH = "the text after --missing has a line end", b"a\nbb\n\na\n"
 LONG_NUMBER, SIZE, WHOLE = "99999999999999999999", len(TABLE), dictionary_of(WORDS)
 LINELESS = "is missing: its line wasn't in the dictionary; --missing TEXT gives it a line"
@@ -98,11 +95,11 @@ ROWS = [
     ("decode few column", b"", said(1, f"column: row 4 {LINELESS}")), ("decode few codes", b"", said(1, f"codes: {NOT_ONE}")),
     ("check few column", b"", DONE),
     ("check column few", b"", said(1, "column: a column, and no dictionary before it; name its dictionary first")),
-    ("check few other column few", b"", said(1, OF_OTHER)),
+    ("check few other column few", b"", said(1, other_dictionary("column", "other"))),
     ("check old", b"", said(1, "old: a dictionary of version 1: freeze its strings again")),
     ("check one oldcolumn", b"", said(1, "oldcolumn: a column of version 1: encode its lines again")),
     ("check damaged cut column", b"", said(
-        1, "damaged: the file is truncated", f"cut: {NOT_ONE}", OF_OTHER.replace("other;", "damaged;"),
+        1, "damaged: the file is truncated", f"cut: {NOT_ONE}", other_dictionary("column", "damaged"),
     )),
     *((f"rows -- few column 0 '{it}'", b"", said(
         2, f"'{it}' names no rows: a number is needed, or the first and the last, as in 10-20",
@@ -133,7 +130,7 @@ def test_answers(tool, words, given, wanted):
 @pytest.mark.parametrize("words", ["find words", "get words 1", "list words", "stat words", "freeze -o -", "--help"])
 def test_closed_pipes(tool, words):
     put(".", FILES)
-    assert tool.unread(*words.split(), given=LINES) == (UNREAD, b"")
+    assert tool.unread(*words.split(), given=LINES) == UNREAD
 
 
 @pytest.mark.parametrize("words, named", [

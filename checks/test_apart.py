@@ -1,9 +1,6 @@
-"""Each output of `intaglio_dict` is a file of its own: the command is refused if one is also an input or another output, and
-nothing is changed. Folders that are written have no input (test_shards.py).
-
-The runs are generated. For each command, each pair of an output and an input or another output is one file, which each of the two
-names in each way that it can: by a path, a symbolic or hard link, a dangling link, or as a standard stream. Standard input is two
-inputs, and a name is empty.
+"""Each output of `intaglio_dict` is a file of its own: if one is also an input or another output, the command is refused, and
+nothing is changed. For each command, each pair of these is one file, which each of the two names in each way that it can: by a
+path, a symbolic or hard link, a dangling link, or as a standard stream. Or standard input is two inputs, or a name is empty.
 """
 
 import contextlib
@@ -29,7 +26,7 @@ NUMBERS = {"3": b"3\n0\n"}
 # A command: its words, what its inputs are, behind their options, its outputs, of which one with ! isn't standard output if it
 # isn't named, and whether the last input is standard input if it isn't named.
 Command = namedtuple("Command", "words inputs outputs reads_standard", defaults=(False,))
-COMMANDS = [Command(words, inputs.split(", "), outputs.split(), *others) for words, inputs, outputs, *others in (
+ROWS: tuple[tuple, ...] = (
     ("freeze", "lines", "-o! --column", True), ("freeze", "lines, lines", "-o!"),
     ("find", "dict, lines", "stdout", True), ("get", "dict, 3", "stdout", True), ("list", "dict", "stdout"),
     ("check", "dict, column", "stdout"), ("stat", "dict", "stdout"),
@@ -38,47 +35,44 @@ COMMANDS = [Command(words, inputs.split(", "), outputs.split(), *others) for wor
     ("rows", "dict, column, 0", "stdout"), ("count", "dict, column", "stdout"),
     ("match --invert", "dict, column, word0", "stdout"),
     ("renumber --maps maps", "column, --into dict", "-o"), ("merge", "dict, dict", "-o!"),
-)]
+)
+COMMANDS = [Command(words, inputs.split(", "), outputs.split(), *others) for words, inputs, outputs, *others in ROWS]
 EACH = pytest.mark.parametrize("command", [pytest.param(it, id=f"{it.words} {' '.join(it.inputs)}") for it in COMMANDS])
 # How a file is named: from the folder that the program runs in, with what makes a link to the file.
 NAMES = ("file", "folder/.././file", "folder/link", "link")
-# How an input or output is given: words after those of its option, and what standard input or output is opened with.
+# An input or an output: its name, if it is another file, its option, what it is, whether it can be named, and whether it needn't
+# be, and how it is redirected. And how it is given: words behind its option, and what standard input or output is opened with.
+Slot = namedtuple("Slot", "name role option what is_named is_standard modes")
 Way = namedtuple("Way", "called words mode", defaults=((), ""))
 
 
-def ways_of_input(command, number):
-    """The ways in which an input can be the file."""
-    if command.inputs[number] in CONTENTS:
-        yield from (Way(name, (name,)) for name in (*NAMES, "hard"))
-        yield Way("- and <", ("-",), "rb")
-    if command.reads_standard and number == len(command.inputs) - 1:
-        yield Way("<", (), "rb")
+def slots(command):
+    """The outputs and the inputs of a command."""
+    for number, what in enumerate(command.outputs):
+        option, modes = [what.rstrip("!")] * (what != "stdout"), {">": "wb", ">>": "ab"}
+        yield Slot(f"out{number}", "output", option, what, bool(option), what in ("-o", "stdout"), modes)
+    for number, what in enumerate(command.inputs, 1):
+        is_standard = command.reads_standard and number == len(command.inputs)
+        yield Slot(f"in{number}", "input", what.split()[:-1], what, what in CONTENTS, is_standard, {"<": "rb"})
 
 
-def ways_of_output(output, is_there):
-    """The ways in which an output can be the file."""
-    option = () if output == "stdout" else (output.rstrip("!"),)
-    if option:
-        yield from (Way(name, (*option, name)) for name in NAMES + ("hard",) * is_there)
-    for sign, mode in ((">", "wb"), (">>", "ab")):
-        if option:
-            yield Way(f"- and {sign}", (*option, "-"), mode)
-        if output in ("-o", "stdout"):
-            yield Way(sign, (), mode)
+def ways(slot, is_there):
+    """The ways in which an input or output can be the file."""
+    if slot.is_named:
+        yield from (Way(name, (name,)) for name in NAMES + ("hard",) * is_there)
+        yield from (Way(f"- and {sign}", ("-",), mode) for sign, mode in slot.modes.items())
+    if slot.is_standard:
+        yield from (Way(sign, (), mode) for sign, mode in slot.modes.items())
 
 
 def words_of(command, given):
-    """The words of a run. What isn't given to an input or output, by its number, is another file."""
+    """The words of a run. What isn't given to an input or output, by its name, is another file."""
     words = command.words.split()
-    for number, output in enumerate(command.outputs):
-        other = Way("", (output.rstrip("!"), f"out{number}") if output != "stdout" else ())
-        words += given.get(("output", number), other).words
-    for number, what in enumerate(command.inputs):
-        *option, kind = what.split()
-        if what in CONTENTS:
-            put(".", {f"in{number}": CONTENTS[what]})
-            kind = f"in{number}"
-        words += [*option, *given.get(("input", number), Way("", (kind,))).words]
+    for slot in slots(command):
+        put(".", {slot.name: CONTENTS[slot.what]} if slot.what in CONTENTS else {})
+        other = (slot.name,) if slot.is_named else (slot.what,) * (slot.role == "input")
+        of_slot = given.get(slot.name, Way("", other)).words
+        words += [*slot.option * bool(of_slot), *of_slot]
     return words
 
 
@@ -111,28 +105,22 @@ def shown(way, standard):
 
 
 def refused(command):
-    """Yields what is given, what is in the file, and how the program ends: for each pair of an input and an output that are one
-    file, in each two ways, for each two outputs, which are there before or aren't, for each two inputs that are both standard
-    input, and for each empty name."""
-    inputs, outputs = [*enumerate(command.inputs)], [*enumerate(command.outputs)]
-    for (number, what), (at, output) in itertools.product(inputs, outputs):
-        for source, written in itertools.product(ways_of_input(command, number), ways_of_output(output, True)):
-            called, given = f"input {number} {source.called}, {output} {written.called}", {("output", at): written}
-            wanted = also_output(shown(source, "input"), shown(written, "output"))
-            yield called, given | {("input", number): source}, (CONTENTS | NUMBERS)[what], wanted
-    for ((at, one), (to, other)), content in itertools.product(itertools.combinations(outputs, 2), (WAS, None)):
-        for first, second in itertools.product(*(ways_of_output(it, content is not None) for it in (one, other))):
-            called = f"{one} {first.called}, {other} {second.called}{'' if content else ', not there'}"
-            wanted = also_output(shown(second, "output"), shown(first, "output"), "output")
-            yield called, {("output", at): first, ("output", to): second}, content, wanted
-    for pair in itertools.combinations([it for it in inputs if it[1] in CONTENTS | NUMBERS], 2):
-        ways = (Way("", ("-",), "rb") if what in CONTENTS else Way("") for _, what in pair)
-        given = dict(zip((("input", number) for number, _ in pair), ways))
-        yield f"standard input twice: {pair}", given, WAS, said(2, ONE_STANDARD_INPUT)
-    named = {("input", number): ("",) for number, what in inputs if what in CONTENTS}
-    named |= {("output", at): (it.rstrip("!"), "") for at, it in outputs if it.startswith("-")}
-    for at, words in named.items():
-        yield f"{at[0]} {at[1]} empty", {at: Way("", words)}, None, said(2, f"the name of an {at[0]} is empty")
+    """Yields what is given, what is in the file, which may not be there, and how the program ends."""
+    for first, second in itertools.combinations(slots(command), 2):
+        if second.role == "output":
+            contents = [WAS, None]
+        else:
+            contents = [(CONTENTS | NUMBERS)[it] for it in [second.what] if it in CONTENTS | NUMBERS]
+        if first.role == "input" and first.what in CONTENTS and contents:
+            given = {it.name: Way("", ("-",), "rb") if it.is_named else Way("") for it in (first, second)}
+            yield f"{first.name}, {second.name}: standard input twice", given, WAS, said(2, ONE_STANDARD_INPUT)
+        for content in contents if first.role == "output" else ():
+            for one, other in itertools.product(*(ways(it, content is not None) for it in (first, second))):
+                called = f"{first.name} {one.called}, {second.name} {other.called}{'' if content else ', not there'}"
+                wanted = also_output(shown(other, second.role), shown(one, "output"), second.role)
+                yield called, {first.name: one, second.name: other}, content, wanted
+    for it in filter(lambda it: it.is_named, slots(command)):
+        yield f"{it.name} empty", {it.name: Way("", ("",))}, None, said(2, f"the name of an {it.role} is empty")
 
 
 @pytest.mark.parametrize("command, given, content, wanted", [
@@ -150,20 +138,18 @@ def test_refused_names(tool, command, given, content, wanted):
 @EACH
 def test_messages(tool, command):
     """Messages would go into an input or a named output: nothing is said then, and nothing is changed."""
-    inputs = [f"in{number}" for number, what in enumerate(command.inputs) if what in CONTENTS]
-    outputs = [f"out{number}" for number, output in enumerate(command.outputs) if output.startswith("-")]
-    for name in inputs + outputs:
+    for slot in filter(lambda it: it.is_named, slots(command)):
         words_of(command, {})
-        if name in outputs:
-            Path(name).write_bytes(WAS)
-        assert ended_as(tool, command, messages=name) == (2, b"", [], True), name
+        if slot.role == "output":
+            Path(slot.name).write_bytes(WAS)
+        assert ended_as(tool, command, messages=slot.name) == (2, b"", [], True), slot
 
 
 @EACH
 def test_files_that_are_apart(tool, command):
     """The command ends with status 0; two inputs may be one file."""
     assert ended_as(tool, command)[0] == 0
-    for one, other in itertools.combinations(range(len(command.inputs)), 2):
-        if command.inputs[one] == command.inputs[other]:
-            Path("file").write_bytes(CONTENTS[command.inputs[one]])
-            assert ended_as(tool, command, {("input", one): Way("", ("file",)), ("input", other): Way("", ("link",))})[0] == 0
+    for one, other in itertools.combinations(slots(command), 2):
+        if one.what == other.what:
+            Path("file").write_bytes(CONTENTS[one.what])
+            assert ended_as(tool, command, {one.name: Way("", ("file",)), other.name: Way("", ("link",))})[0] == 0

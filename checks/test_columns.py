@@ -22,8 +22,7 @@ from tool import DONE, ONE, TRUSTED_FOLDER, WHOLE, left, made, other_dictionary,
 
 
 def missing_line(name, place, line):
-    """What is said of a line that is in no dictionary. It is shown as it is if it's a short text without control characters, and
-    otherwise escaped."""
+    """What is said of a line that isn't there: as it is if it's a short text without control characters, or else escaped."""
     named = {9: "\\t", 10: "\\n", 13: "\\r", 34: '\\"', 39: "\\'", 92: "\\\\"}
     shown = "".join(named.get(it, chr(it) if 32 <= it < 127 else f"\\x{it:02x}") for it in line[:200])
     if len(line) <= 200 and is_text(line) and not any(unicodedata.category(it) == "Cc" for it in line.decode()):
@@ -100,8 +99,7 @@ def check_column(tool, chance, table, whole, lines):
 
 
 def check_lines(tool, chance, lines, kind, count):
-    """Tries the commands on the column of lines, and on one with missing lines, with a dictionary in a file or in shards. Then lines
-    become columns and plain codes, and these lines."""
+    """Tries the commands on the column of lines, and on one with missing lines, with a dictionary in a file or in shards."""
     name, again, shards = f"dict{count}", f"again{count}", ["--shards", str(count)] if count else []
     whole = test_shards.check_freeze(tool, name, lines, kind, count)
     freezes = ["freeze", "--kind", KINDS[kind], *shards, "-o", again, "--column", "-", "--random-keys"]
@@ -112,14 +110,14 @@ def check_lines(tool, chance, lines, kind, count):
     data, all_lines = with_text(some, b"none of them"), f"{name}.lines"
     assert tool("encode", "--missing", name, "-o", "column", given=data) == DONE and read("column") == whole.column(some)
     check_column(tool, chance, name, whole, some)
-    for raw, coded in (([], whole.column), (["--raw"], lambda some: packed(encoded(whole.strings, some)))):
-        words, wanted = ["encode", *raw, name], coded(lines)
+    for raw, coded in (("", whole.column), ("--raw", lambda some: packed(encoded(whole.strings, some)))):
+        words, decodes, wanted = ["encode", *raw.split(), name], ["decode", *raw.split(), name], coded(lines)
         assert tool(*words, all_lines) == wrote(wanted) == tool(*words, given=ended(lines))
         assert tool(*words, all_lines, all_lines, "-o", "codes") == DONE and read("codes") == coded(lines * 2)
-        assert tool("decode", *raw, name, "codes", "-o", "plain") == DONE and read("plain") == ended(lines * 2)
-        assert tool("decode", *raw, name, given=wanted) == wrote(ended(lines))
+        assert tool(*decodes, "codes", "-o", "plain") == DONE and read("plain") == ended(lines * 2)
+        assert tool(*decodes, given=wanted) == wrote(ended(lines))
         assert tool(*words, "--missing", given=data) == wrote(coded(some))
-        assert tool("decode", *raw, "--missing", "none", name, given=coded(some)) == wrote(with_text(some, b"none"))
+        assert tool(*decodes, "--missing", "none", given=coded(some)) == wrote(with_text(some, b"none"))
         if None in some:
             told = missing_line("standard input", some.index(None) + 1, b"none of them")
             assert tool.refuses(1, told, *words, "-o", "out", given=data)
@@ -208,20 +206,19 @@ def test_missing_lines(tool, data, place):
     strings, lines = [b"a", b"", b"ccc"], lines_of(data)
     put(".", {"table": freeze(strings), "lines": data})
     codes, again = packed(encoded(strings, lines)), wrote(ended(it if it in strings else b"?" for it in lines))
-    for raw, coded, begun in (([], dictionary_of(strings).column(lines), b""), (["--raw"], codes, codes[: 4 * place - 4])):
-        encodes, line = ["encode", *raw, "table"], lines[place - 1]
+    for raw, coded, begun in (("", dictionary_of(strings).column(lines), b""), ("--raw", codes, codes[: 4 * place - 4])):
+        encodes, line = ["encode", *raw.split(), "table"], lines[place - 1]
         status, written, told = tool(*encodes, given=data)
         assert (status, told) == said(1, missing_line("standard input", place, line))[::2] and begun.startswith(written)
         assert tool.refuses(1, missing_line("lines", place, line), *encodes, "lines", "-o", "out")
         assert tool(*encodes, "--missing", given=data) == wrote(coded)
-        assert tool("decode", *raw, "--missing", "?", "table", given=coded) == again
+        assert tool("decode", *raw.split(), "--missing", "?", "table", given=coded) == again
     told = said(1, f"standard input: code number {place} {LINELESS}")[::2]
     assert tool("decode", "--raw", "table", given=codes)[::2] == told
 
 
 def test_sessions_of_the_page(tool):
-    """The three steps with which docs/COLUMNS.md begins, at whose end are the lines of two parts, and each command of its
-    sessions, one after the other, which writes what stands there."""
+    """The steps with which docs/COLUMNS.md begins end with the lines, and each command of its sessions writes what it shows."""
     page = Path(TOP, "docs/COLUMNS.md").read_text(encoding="utf-8").replace("./intaglio dict", f"'{tool.path}'")
     steps = re.findall(r"^```sh\n(.*?)^```", page, re.M | re.S)[0]
     status, written, _ = run(["/bin/sh", "-ec", steps], PATH=os.environ["PATH"])

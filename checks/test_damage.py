@@ -59,8 +59,7 @@ def is_right(message, faults, wanted=None):
 
 @st.composite
 def damaged(draw, data, files):
-    """A file that was damaged once or a few times: a number is another one, bytes are others, more or fewer, two numbers that are
-    near each other are exchanged, or the file is cut, or ends as another does."""
+    """A file that was damaged once or more: a number, other, more or fewer bytes, exchanged numbers, the end, or another's."""
     for _ in range(draw(st.sampled_from((1, 1, 1, 2, 3)))):
         width, place = draw(st.sampled_from((1, 2, 4, 8))), draw(st.integers(0, len(data)))
         aligned = place // width * width
@@ -209,8 +208,8 @@ def test_damaged_codes(tool):
         given_codes = packed(codes * times)
         given_codes = data.draw(damaged(given_codes, [b""])) if data.draw(st.booleans()) else given_codes
         put(".", {"codes": given_codes})
-        for text, missing in ((None, []), (b"?", ["--missing", "?"])):
-            words, (wanted, faults) = ["decode", "--raw", *missing, "table"], translated(given_codes, text)
+        for text, options in ((None, "--raw"), (b"?", "--raw --missing ?")):
+            words, (wanted, faults) = ["decode", *options.split(), "table"], translated(given_codes, text)
             status, written, told = tool(*words, given=given_codes)
             assert (status, told) == said(len(faults), *(f"standard input: {it}" for it in faults))[::2]
             assert wanted.startswith(written) if faults else wanted == written

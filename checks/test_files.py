@@ -1,7 +1,5 @@
-"""How `intaglio_dict freeze` and the `freeze` of the Python module replace a file: what they leave in its folder, and what they
-don't touch. Each case is tried with both, in processes of their own. The module's `freeze` writes what the library makes by its
-function `replace`, which frozen_replace.py runs without the library. bindings/tests/test_frozen.py has the whole `freeze`.
-"""
+"""How `intaglio_dict freeze` and the `freeze` of the Python module, whose function `replace` frozen_replace.py runs, replace a
+file: what they leave in its folder, and what they don't touch."""
 
 import errno
 import itertools
@@ -13,6 +11,7 @@ import stat
 import subprocess
 import sys
 from collections import namedtuple
+from collections.abc import Callable
 from pathlib import Path
 from typing import Any
 
@@ -28,8 +27,7 @@ HOW: dict[str, Any] = {"capture_output": True, "timeout": 20}
 
 
 class Writer(namedtuple("Writer", "command given noise start new")):
-    """How tables are frozen to a path, by the program or as the Python module does: the command, what is given of strings, the
-    option by which something is said meanwhile, what messages begin with, and the file that they name for the new one."""
+    """What freezes to a path: a command, what it reads, an option for noise, how messages begin, and how they call a new file."""
 
     def __call__(self, path, before=None, **settings):
         """The status of a process that freezes the strings to a path, and what it said."""
@@ -77,7 +75,7 @@ def as_link(path):
 
 
 # What is planted that is somebody else's.
-PLANTED = {"a file": as_file, "a link": as_link, "a folder": os.mkdir, "a pipe": os.mkfifo}
+PLANTED: dict[str, Callable] = {"a file": as_file, "a link": as_link, "a folder": os.mkdir, "a pipe": os.mkfifo}
 
 
 @pytest.mark.parametrize("what", PLANTED)
@@ -152,8 +150,7 @@ def test_links(writer):
 @pytest.mark.parametrize("name", ["there", "link"])
 @pytest.mark.parametrize("kind", ["a pipe", "a device"])
 def test_irregular_files(writer, name, kind):
-    """What is no regular file isn't replaced: the program writes to a device and to a pipe, and the Python module refuses
-    them."""
+    """What is no regular file isn't replaced: the program writes to devices and pipes, and the Python module refuses them."""
     try:
         os.mkfifo("there") if kind == "a pipe" else os.mknod("there", stat.S_IFCHR | 0o666, os.makedev(1, 3))
     except PermissionError:
@@ -175,8 +172,10 @@ def test_names(writer, folder):
             os.remove(path)
     long, other = f"{folder}/{'n' * 256}", os.fsencode(folder) + b"/\xff"
     assert writer(long) == writer.said(long, os.strerror(errno.ENAMETOOLONG))
-    told = 2, f"{NAME}: argument 3 isn't UTF-8: '{folder}/\\xff'"
-    assert writer.freezes(other) if writer is MODULE else writer(other) == told
+    if writer is MODULE:
+        assert writer.freezes(other)
+    else:
+        assert writer(other) == (2, f"{NAME}: argument 3 isn't UTF-8: '{folder}/\\xff'")
 
 
 def test_errors(writer):
@@ -189,7 +188,7 @@ def test_errors(writer):
         (path, lambda: limit_files(signal.SIG_IGN), os.path.dirname(path), errno.EFBIG),
     ):
         status, told = writer(target, before=limit)
-        start, end = map(re.escape, writer.said(new, os.strerror(error))[1].split(f"{new}: "))
+        start, end = (re.escape(it) for it in writer.said(new, os.strerror(error))[1].split(f"{new}: "))
         assert status == 1 and re.fullmatch(f"{start}{re.escape(new)}/{writer.new}: {end}", told)
     status, told = writer("none/")
     assert status == 1 and told.startswith(writer.said("none", "")[1][:-2]) and seen() == before
@@ -212,8 +211,7 @@ def test_closed_streams(writer, streams):
 ])
 @pytest.mark.parametrize("count", [2, 4])
 def test_several_processes(request, names, count):
-    """Several processes freeze to one file at the same time, and in each second round one of them fails: the file is always
-    whole, and that of a process that ended with status 0, and nothing else is left."""
+    """Several freeze to one file at once, and in each second round one fails: the file is always that of one that succeeded."""
     writers = [writer_of(request, it) for it in names * (count // len(names))]
     lists = [[b"%d %d" % (it, number) for number in range(1500 + 400 * it)] for it in range(count)]
     tables = [*map(freeze, lists)]

@@ -24,11 +24,6 @@ OF_ANOTHER_SET = "whole/1.dict: of another set than whole/0.dict; write both aga
 OTHER, OTHER_SET = merge_of([TWO, ONE]), bytes(range(16))
 
 
-def files_of(path):
-    """The files of a dictionary, which is a folder, or the only file."""
-    return files_in(path) or {"0.dict": read(path)}
-
-
 def refused(tool, status, message, words):
     """Checks that the command says this, which is a pattern. Returns the files that it changed."""
     put(".", {"out": WAS})
@@ -45,13 +40,13 @@ def check_freeze(tool, part, lines, kind, count):
     put(".", {f"{part}.lines": ended(lines)})
     words = ["freeze", "--kind", KINDS[kind], *shards, "-o", part, "--column", f"{part}.column"]
     assert tool(*words, f"{part}.lines") == DONE
-    assert files_of(part) == wanted.files() and read(f"{part}.column") == wanted.column(lines)
+    assert files_in(part) == wanted.files() and read(f"{part}.column") == wanted.column(lines)
     return wanted
 
 
 def check_parts(tool, parts, kind, count):
-    """Tries the three steps on the lines of parts, whose dictionaries are files, or folders of so many shards, which are merged one
-    after the other. Once more all are merged at once: to the same, or files to shards."""
+    """Tries the three steps on the lines of parts, whose dictionaries are files, or folders of so many shards, which are merged
+    one by one. Once more they are merged at once: to the same, or if they are files to shards."""
     names = [*map(str, range(len(parts)))]
     for name in ("maps", "others", "again", "whole", *names):
         shutil.rmtree(name) if os.path.isdir(name) else Path(name).unlink(missing_ok=True)
@@ -64,7 +59,7 @@ def check_parts(tool, parts, kind, count):
     assert count or tool("merge", *names, "-o", "whole", "--maps", "maps") == DONE
     assert tool("merge", *names, *shards, "-o", "again", "--maps", "others") == DONE
     for name, maps, wanted in (("whole", "maps", whole), ("again", "others", again)):
-        assert files_of(name) == wanted.files() and read_dictionary(name) == wanted
+        assert files_in(name) == wanted.files() and read_dictionary(name) == wanted
         assert files_in(maps) == maps_of(of_parts, wanted)
     for name, lines in zip(names, parts):
         column, renumber = whole.column(lines), ["renumber", "--maps", "maps", f"{name}.column"]
@@ -79,8 +74,7 @@ def check_parts(tool, parts, kind, count):
 
 @pytest.mark.parametrize("count", [1, 4])
 def test_nested_merges(tool, count):
-    """One folder has the maps of a merge and of another one, of which the first dictionary is a part. A column is renumbered once
-    for each, or by maps that are composed."""
+    """One folder has the maps of a merge of a merge. A column is renumbered once for each, or by maps that are composed."""
     parts = [dictionary_of((b"w%d" % it for it in range(start, start + 30)), count) for start in (0, 20, 40)]
     inner = merge_of(parts[:2])
     outer, lines = merge_of([inner, parts[2]]), parts[0].strings[::-2]
@@ -263,8 +257,7 @@ def test_refusals(tool, words, status, message):
 
 
 class History:
-    """Random steps, some of which are killed, on folders a, b and c of parts, g, v and w of merges, and columns, whose lines it
-    knows. Whatever opens gives the lines."""
+    """Random steps, some killed, on folders a, b, c of parts and g, v, w of merges. Whatever opens gives a column's lines."""
 
     def __init__(self, tool, seed):
         self.tool, self.chance, self.lines = tool, random.Random(seed), {}

@@ -12,8 +12,8 @@ from pathlib import Path
 import hypothesis
 import pytest
 from formats import (
-    BYTES, KINDS, MISSING, TEXT, Dictionary, Frozen, column, dictionary_of, encoded, ended, freeze, id_of, is_text, lines_of,
-    map_of, packed, put, read_dictionary, sip_hash,
+    BYTES, KINDS, MISSING, TEXT, Dictionary, Frozen, dictionary_of, encoded, ended, freeze, is_text, lines_of, map_of, packed,
+    put, read_dictionary, sip_hash,
 )
 from hypothesis import strategies as st
 from programs import TOP, run
@@ -31,8 +31,7 @@ LARGE = {
     "strings of 1 MB": [b"x" * 1_000_000, b"x" * 999_999 + b"y", b""],
 }
 EACH = pytest.mark.parametrize("strings", [pytest.param(it, id=name) for name, it in (LISTS | LARGE).items()])
-# Strings that all fall into the first of their groups under 0 and 0, and under the seven pairs of keys after these: a search
-# found them in a minute.
+# Strings that all fall into the first of their groups under the first eight pairs of keys: a search found them in a minute.
 CHOSEN = (
     b"gmwreda ubzttfa coknaha xvnccja ihhdwoa nbdjxwa irfvzwa cplerxa unktlya hhgofcb llwjhfb vypazkb "
     b"cowdblb vayiunb lmubmob mcbvadc vqevxdc qfrowec vfbfpgc qiwxxhc hblmjjc crszojc eeviemc htjjunc"
@@ -51,8 +50,8 @@ def test_samples_of_the_page():
     """The files that docs/FORMATS.md shows, where what stands behind three spaces in a line says what is there."""
     page = Path(TOP, "docs/FORMATS.md").read_text(encoding="utf-8")
     samples = [re.sub(r"(?m) {3}\S.*$", "", it) for it in re.findall(r"^```text\n(.*?)^```", page, re.M | re.S)]
-    made = column(id_of(freeze([b"rose", b"thorn"], TEXT, 1, 2)), [0, 1, 0, MISSING])
-    assert [freeze([b"rose"], TEXT), made] == [*map(bytes.fromhex, samples)] and sip_hash(0, 0, b"rose") == 0xDBCBC1FE67FCD9A6
+    column = dictionary_of([b"rose", b"thorn"], 1, TEXT).column([b"rose", b"thorn", b"rose", None])
+    assert [freeze([b"rose"], TEXT), column] == [*map(bytes.fromhex, samples)] and sip_hash(0, 0, b"rose") == 0xDBCBC1FE67FCD9A6
 
 
 def test_the_hash_is_that_of_python():
@@ -116,8 +115,7 @@ DISTINCT = st.lists(st.binary(max_size=11).filter(lambda it: b"\n" not in it), u
 @hypothesis.settings(max_examples=60)
 @hypothesis.given(DISTINCT, st.sampled_from(((0, 0), (2**64 - 1, 0))) | st.tuples(KEYS, KEYS))
 def test_random_lists(tool, strings, keys):
-    """Two processes that freeze the same lines under the same keys write the bytes that the other writer does: the kind, the keys
-    and the strings fix them."""
+    """Two processes that freeze the same lines under the same keys write the bytes that the other writer does."""
     for name in ("first", "second"):
         assert tool("freeze", "--keys", f"{keys[0]},{keys[1]}", "-o", name, given=ended(strings)) == DONE
         assert read(name) == freeze(strings, BYTES, *keys)
@@ -125,7 +123,7 @@ def test_random_lists(tool, strings, keys):
 
 def test_random_keys(tool):
     drawn = [Frozen(tool("freeze", "-o", "-", "--random-keys", given=LINES)[1]) for _ in range(4)]
-    assert all([*it] == WORDS for it in drawn) and len({key for it in drawn for key in (it.key0, it.key1)}) == 8
+    assert all([*it] == WORDS for it in drawn) and len({key for it in drawn for key in it.header[3:5]}) == 8
 
 
 def test_chosen_lines(tool):
@@ -135,9 +133,6 @@ def test_chosen_lines(tool):
     for words in (["--random-keys"], ["--keys", "8,0"], []):
         assert tool("freeze", "-o", "out", *words, given=ended(CHOSEN)) == DONE and [*Frozen(read("out"))] == CHOSEN
     assert read("out") == freeze(CHOSEN)
-
-
-# Blocks, and long lines.
 
 
 @pytest.mark.parametrize("end", [b"", b"\n"])
@@ -163,8 +158,7 @@ def test_lines_that_repeat_take_no_memory(tool):
 
 
 def test_long_lines(tool):
-    """Each command on a line of 100 MiB: what it writes, and its processor time, which would be minutes if it grew with the
-    square of the length."""
+    """Each command on a line of 100 MiB: what it writes, and its time, which isn't that of the square of the length."""
     line = b"0123456789abcdef" * (100 * 2**16)
     lines, two = line + b"\nb\n", packed([0, 1])
     put(".", {"source": lines})
@@ -187,7 +181,7 @@ def test_long_lines(tool):
         assert is_right, words
         assert sum(resource.getrusage(resource.RUSAGE_CHILDREN)[:2]) - before < 15, words
     is_right = read(f"maps/{whole.map_name()}") == map_of(whole, whole) and read("out") == read("long")
-    assert is_right
+    assert is_right, "maps"
 
 
 @pytest.mark.parametrize("section, following", [("symbols", "ends"), ("ends", "pilots"), ("tags", "text")])
