@@ -1,6 +1,6 @@
 -- The check that a group of strings has no places, step by step.
 use Rattle.intaglio_frozen.proofs.Names.{common_steps, cases_eq, groups_for, scaled, group_at, place_under, IsBeforeAt, IsEarlierAt, HasNoPlace, AreMembers, AreMarked, taken_mark}
-use Rattle.std.proofs.Common.{◌≡◌, ℕ, ◌+◌, ◌<◌, ◌==◌, inl, inr, Bool, List, length, get_or, set, take, sym, ap, ◌∙◌, arith, count_by, get_or-set_same, get_or-set_other}
+use Rattle.std.proofs.Common.{◌≡◌, ◌≢◌, ℕ, ◌+◌, ◌<◌, ◌==◌, inl, inr, Bool, List, length, get_or, set, take, sym, ap, ◌∙◌, arith, count_by, get_or-set_same, get_or-set_other}
 
 -- whether a hash is one of a group
 abbrev pub is_in : List ℕ → ℕ → ℕ → Bool
@@ -28,6 +28,27 @@ module _ (hs : List ℕ) (pilots : ℕ → ℕ) (g : ℕ) where
           ∙ get_or-set_same marks at taken_mark 0 l))
       | inr other ↦
           grind (arith, get_or-set_other marks at p taken_mark 0 other, old.others p)
+    ];
+  }
+
+  -- the strings before n that are in groups before have places of their own, which are marked
+  pub record AreOwn (marks : List ℕ) (n : ℕ) : Type 0 where
+    pub marked : (p i : ℕ) → i < n → IsBeforeAt hs pilots g p i → get_or marks p 0 ≡ taken_mark
+    pub own : (p i j : ℕ) → i < j → j < n → IsBeforeAt hs pilots g p i → ¬ IsBeforeAt hs pilots g p j
+
+  -- one more string is in a group before, and its place, which wasn't marked, is; or it is in no such group
+  pub own-more : (marks next : List ℕ) (n : ℕ)
+      → ((p : ℕ) → get_or marks p 0 ≡ taken_mark → get_or next p 0 ≡ taken_mark)
+      → ((p : ℕ) → IsBeforeAt hs pilots g p n → (get_or marks p 0 ≢ taken_mark) × (get_or next p 0 ≡ taken_mark))
+      → AreOwn marks n → AreOwn next (n + 1)
+  own-more marks next n kept this old = record {
+    marked = λ p i b is. elim (cases_eq i n) [
+      | inl last ↦ (this p (rw last at is)).1
+      | inr other ↦ kept p (old.marked p i (omega (arith, b, other)) is)
+    ];
+    own = λ p i j l b is also. elim (cases_eq j n) [
+      | inl last ↦ (this p (rw last at also)).0 (old.marked p i (omega (arith, l, last)) is)
+      | inr other ↦ old.own p i j l (omega (arith, b, other)) is also
     ];
   }
 

@@ -31,5 +31,5 @@ pub use Rattle.intaglio_frozen.specs.Merging.{AreKeys, AreMaps, IsMap, decode, m
 pub use Rattle.intaglio_frozen.specs.SetId.{first_kind, hashed_under, merge_bytes, number_bytes, set_bytes, set_of_shards, shard_bytes, shards_bytes}
 pub use Rattle.intaglio_frozen.specs.Shards.{AreAllDistinct, AreEachDistinct, AreNumbered, AreShardMaps, AreShards, BelongBefore, BelongTo, first_shards, joined, joined_map, shard, starts_from, sum_of}
 pub use Rattle.intaglio_frozen.specs.Strings.{AreEnds, strings_from}
-pub use Rattle.intaglio_frozen.specs.Stuck.{HasNoPlace, IsBefore, IsBeforeAt, IsEarlierAt, group_at, place_under}
+pub use Rattle.intaglio_frozen.specs.Stuck.{HasNoPlace, HaveOwnPlaces, IsBefore, IsBeforeAt, IsEarlierAt, group_at, place_under}
 pub use Rattle.intaglio_frozen.specs.declared.id.DictionaryId.{DictionaryId}

@@ -38,9 +38,15 @@ pub record HasNoPlace (hs : List ℕ) (pilots : ℕ → ℕ) (g q j : ℕ) : Typ
   pub taken : (i : ℕ) × (IsBeforeAt hs pilots g (place_under hs j q) i
       ⊎ IsEarlierAt hs g q (place_under hs j q) j i)
 
--- where the groups before it have these pilots, a string of this group has no place, whichever pilot it gets
+-- no two strings of groups that are placed before group g have the same place
+abbrev pub HaveOwnPlaces : List ℕ → (ℕ → ℕ) → ℕ → Type 0
+HaveOwnPlaces hs pilots g = (p i j : ℕ) → i < j → IsBeforeAt hs pilots g p i → ¬ IsBeforeAt hs pilots g p j
+
+-- where the groups before it have these pilots, their strings have places of their own, and a string of this
+-- group has none, whichever pilot it gets
 pub record IsStuck (hs : List ℕ) : Type 0 where
   pub pilots : ℕ → ℕ
   pub few : (g : ℕ) → pilots g < 2 ^ 16
   pub group : ℕ
+  pub own : HaveOwnPlaces hs pilots group
   pub none : (q : ℕ) → q < 2 ^ 16 → (j : ℕ) × HasNoPlace hs pilots group q j

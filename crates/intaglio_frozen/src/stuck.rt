@@ -1,9 +1,9 @@
 //! A check that a group of strings has no places.
 //!
 //! It is made only where the search has failed, and it is slower. The search isn't proved, but this check is.
-ghost use Rattle.std.specs.Prelude.{◌≡◌, ℕ, List, ◌+◌, ◌<◌, ◌≤◌, ◌^◌, IfOk, IsTrue, false, length, get_or};
+ghost use Rattle.std.specs.Prelude.{◌≡◌, ℕ, List, ◌↔◌, ◌+◌, ◌<◌, ◌≤◌, ◌^◌, IfOk, IsTrue, false, length, get_or};
 ghost use Rattle.intaglio_frozen.specs.Layout.{groups_for as count_of_groups, places_for as count_of_places};
-ghost use Rattle.intaglio_frozen.specs.Stuck.{HasNoPlace, IsBefore, IsStuck, group_at as group_of, place_under as place_of};
+ghost use Rattle.intaglio_frozen.specs.Stuck.{HasNoPlace, HaveOwnPlaces, IsBefore, IsStuck, group_at as group_of, place_under as place_of};
 ghost use Rattle.intaglio_frozen.specs.Marks.{AreMarked, AreMembers, AreSizes};
 
 use crate::numbers::{groups_for, mixed, places_for, scaled};
@@ -14,8 +14,8 @@ use std::alloc::{AllocError, Global};
 // one more than a pilot, or 0.
 const TAKEN: u32 = u32::MAX;
 
-// Whether under each pilot a string of this group would get the place of an earlier one of the group, or of a
-// string of a group that is placed before and has this pilot.
+// Whether the strings of groups that are placed before this one have places of their own under these pilots,
+// and under each pilot a string of this group would get one of these, or that of an earlier one of the group.
 pub(crate) fn is_stuck(
     alloc: Global,
     hashes: &[u64],
@@ -61,8 +61,15 @@ fn members_of(alloc: Global, hashes: &[u64], group: usize) -> Result<Vec<u32>, A
     Ok(members)
 }
 
-// Marks the places of the groups that are placed before this one.
-fn mark_before(hashes: &[u64], pilots: &[u16], sizes: &[u32], group: usize, marks: &mut [u32])
+// Marks the places of the strings of groups that are placed before this one, and returns whether no two of
+// these strings have the same.
+fn mark_before(
+    hashes: &[u64],
+    pilots: &[u16],
+    sizes: &[u32],
+    group: usize,
+    marks: &mut [u32],
+) -> bool
     requires few { length hashes.now ≤ 2 ^ 31 }
     requires pilots { length pilots.now ≡ count_of_groups (length hashes.now) }
     requires sizes { AreSizes hashes.now sizes.now }
@@ -71,25 +78,32 @@ fn mark_before(hashes: &[u64], pilots: &[u16], sizes: &[u32], group: usize, mark
     requires none { (p : ℕ) → get_or marks.old p 0 ≡ 0 }
     ensures len { length marks.new ≡ length marks.old }
     ensures marked { AreMarked hashes.now (λ g. get_or pilots.now g 0) group marks.new 0 }
+    ensures own { IsTrue result → HaveOwnPlaces hashes.now (λ g. get_or pilots.now g 0) group }
 {
     for i in 0..hashes.len() {
         let other = group_at(hashes, i);
         if is_before(sizes, other, group) {
-            marks[place_under(hashes, i, pilots[other])] = TAKEN;
+            let place = place_under(hashes, i, pilots[other]);
+            if marks[place] == TAKEN {
+                return false;
+            }
+            marks[place] = TAKEN;
         }
     }
+    true
 }
 
 // Whether a group is placed before another: it is larger, or as large and has the lower number.
 fn is_before(sizes: &[u32], first: usize, second: usize) -> bool
     requires first { first < length sizes.now }
     requires second { second < length sizes.now }
-    ensures { (hs : List ℕ) → AreSizes hs sizes.now → IsTrue result → IsBefore hs first second }
+    ensures { (hs : List ℕ) → AreSizes hs sizes.now → IsTrue result ↔ IsBefore hs first second }
 {
     sizes[second] < sizes[first] || (sizes[second] == sizes[first] && first < second)
 }
 
-// Whether there is a pilot under which the strings of a group get places of their own. All marks are 0.
+// Whether there is a pilot under which the strings of a group get places of their own, or two strings of groups
+// that are placed before it have the same place. All marks are 0.
 fn has_pilot(
     hashes: &[u64],
     pilots: &[u16],
@@ -107,7 +121,9 @@ fn has_pilot(
     requires none { (p : ℕ) → get_or marks.old p 0 ≡ 0 }
     ensures { result ≡ false → IsStuck hashes.now }
 {
-    mark_before(hashes, pilots, sizes, group, marks);
+    if !mark_before(hashes, pilots, sizes, group, marks) {
+        return true;
+    }
     for pilot in 0..PILOTS {
         if has_places(hashes, members, pilot as u16, marks) {
             return true;

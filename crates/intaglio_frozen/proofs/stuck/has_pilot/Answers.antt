@@ -1,5 +1,5 @@
 -- A pilot that fails leaves a string without a place (`has_places`). That this is so of all 2^16 is what
--- `IsStuck` says, for the pilots of the groups placed before.
+-- `IsStuck` says, for the pilots of the groups placed before, whose strings have places of their own.
 use Rattle.std.proofs.Common.{◌∙◌, ℕ, inl, inr, get_or, arith}
 use Rattle.intaglio_frozen.proofs.Names.{cases_eq}
 use Rattle.intaglio_frozen.proofs.stuck.has_pilot.Goals as goal
@@ -26,5 +26,6 @@ returns c _ = record {
   pilots = λ g. get_or c.args.pilots.now g 0;
   few = λ g. (c.type_inv.pilots g).fits;
   group = c.args.group;
+  own = c.mark_before.ensures.own c.if-not-mark_before.false;
   none = λ q l. c.loop-pilot.invariant.none q (omega (arith, l, c.loop-pilot-test.false));
 }

@@ -1,9 +1,9 @@
 -- The place that a turn marks is that of string i under the pilot of its group, which `is_before` says is
--- placed before this one (`marked-more`).
-use Rattle.intaglio_frozen.proofs.Names.{common_steps, IsBefore, place_under}
-use Rattle.std.proofs.Common.{◌∙◌, ℕ, ap, get_or, subst, sym, arith}
-use Rattle.intaglio_frozen.proofs.Marked.{marked-more}
-use Rattle.intaglio_frozen.proofs.stuck.mark_before.Goals.{then-is_before, else-is_before}
+-- placed before this one (`marked-more`). It wasn't marked, so no earlier string has it (`own-more`).
+use Rattle.intaglio_frozen.proofs.Names.{common_steps, group_at, IsBefore, place_under, taken_mark}
+use Rattle.std.proofs.Common.{◌≡◌, ◌<◌, ◌∙◌, ℕ, length, ap, get_or, get_or-set_same, set, subst, sym, arith}
+use Rattle.intaglio_frozen.proofs.Marked.{marked-more, own-more}
+use Rattle.intaglio_frozen.proofs.stuck.mark_before.Goals.{then-is_before+else-marks-place, else-is_before}
 use Rattle.intaglio_frozen.proofs.stuck.mark_before.Goals as goal
 
 pub loop-i-preserved : goal.loop-i-preserved
@@ -15,19 +15,36 @@ loop-i-preserved c =
     let marks = c.loop-i.marks in
     let old = c.loop-i.invariant in
     let other = c.group_at-other.ensures.value in
+    let is_before = c.is_before.ensures hs c.requires.sizes in
     elim c.if-is_before.branch [
-      | then-is_before w ↦
-          (let at = w.place_under.result in
+      | then-is_before+else-marks-place w ↦
+          (let at = w.place_under-place.result in
+          let within : at < length marks = omega (arith, w.place_under-place.ensures.below, old.len, c.requires.marks) in
+          let is : at ≡ place_under hs i (ps (group_at hs i)) =
+          w.place_under-place.ensures.value ∙ ap (λ f. place_under hs i (ps f)) other in
           record {
             len = grind (arith, common_steps);
             marked = rw w.marks-is
-                (marked-more hs ps g marks 0 at i (omega (arith, w.place_under.ensures.below, old.len, c.requires.marks))
+                (marked-more hs ps g marks 0 at i within
                 (record {
                   there = c.loop-i-test.true;
-                  before = subst (λ f. IsBefore hs f g) other
-                      (c.is_before.ensures hs c.requires.sizes w.if-is_before.true);
-                  place = sym (w.place_under.ensures.value ∙ ap (λ f. place_under hs i (ps f)) other);
+                  before = subst (λ f. IsBefore hs f g) other (is_before.0 w.if-is_before.true);
+                  place = sym is;
                 }) old.marked);
+            own = rw w.marks-is
+                (own-more hs ps g marks (set marks at taken_mark) i (λ p e. grind (arith, common_steps))
+                (λ p this. rw (← this.place, ← is)
+                (w.if-marks-place.false, get_or-set_same marks at taken_mark 0 within)) old.own);
           })
-      | else-is_before w ↦ grind (arith, common_steps)
+      | else-is_before w ↦ record {
+        len = grind (arith, common_steps);
+        marked = grind (arith, common_steps);
+        own = rw w.marks-is
+            (own-more hs ps g marks marks i (λ _ e. e)
+            (λ p this. let no = is_before.1 (rw (← other) at this.before) in cc) old.own);
+      }
     ]
+
+pub returns-clause-own : goal.returns-clause-own
+returns-clause-own c = λ _ p i j l is also.
+    c.loop-i.invariant.own.own p i j l (omega (arith, also.there, c.loop-i-test.false)) is also
