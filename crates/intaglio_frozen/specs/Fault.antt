@@ -24,7 +24,7 @@ IsFault bs TooMany = HasKind bs × IsReserved bs × (2 ^ 31 < count bs)
 IsFault bs Shard = HasKind bs × IsReserved bs × (count bs ≤ 2 ^ 31) × (shards bs ≤ shard bs)
 IsFault bs OtherIdentity =
     (HasKind bs × IsReserved bs × (count bs ≤ 2 ^ 31) × (shard bs < shards bs) × ¬ HasSet bs)
-    ⊎ (HasSections bs × ¬ HasId bs)
+    ⊎ (IsBlock bs × ¬ HasId bs)
 IsFault bs Truncated =
     (HasMagic bs × (length bs < 12)) ⊎ (HasVersion bs × (length bs < 128))
     ⊎ (HasHeader bs × (length bs < size bs))
@@ -33,3 +33,8 @@ IsFault bs Ends = HasSections bs × ¬ AreEnds 0 (length bs - text_at bs) (ends 
 IsFault bs Unused = IsBlock bs × ¬ HasUnused bs
 IsFault bs (NotFound i) = IsBlock bs × AreFoundBelow bs i × IsNotFoundAt bs i
 IsFault bs (NotUtf8 i) = IsBlock bs × (kind bs ≡ text_kind) × IsNoText (strings bs) i
+
+-- where ends aren't checked: the header or the length has this fault, or else the identity is another
+abbrev pub IsIdFault : List ℕ → FrozenError → Type 0
+IsIdFault bs error =
+    (IsFault bs error × ¬ HasSections bs) ⊎ ((error ≡ OtherIdentity) × HasSections bs × ¬ HasId bs)

@@ -1,6 +1,6 @@
 //! The identity of a dictionary, from the bytes of its frozen table.
 ghost use Rattle.std.specs.Prelude.{◌≡◌, IfErr, IfOk, IsOk};
-ghost use Rattle.intaglio_frozen.specs.Fault.{IsFault};
+ghost use Rattle.intaglio_frozen.specs.Fault.{IsIdFault};
 ghost use Rattle.intaglio_frozen.specs.Identity.{HasId, IsIdOfTable, id_in};
 ghost use Rattle.intaglio_frozen.specs.IsFrozen.{HasSections};
 
@@ -33,7 +33,7 @@ pub fn id_of_table(table: &[u8]) -> Result<DictionaryId, FrozenError>
     ensures header { IfOk result (λ id. id ≡ id_in table.now) }
     ensures sections { IfOk result (λ _. HasSections table.now) }
     ensures only { HasSections table.now → HasId table.now → IsOk result }
-    ensures err { IfErr result (IsFault table.now) }
+    ensures err { IfErr result (IsIdFault table.now) }
 {
     let header = Header::read(table)?;
     if !Reader::read(table)?.has_id() {

@@ -12,7 +12,7 @@ pub returns-then-not-has_id-clause-err : goal.returns-then-not-has_id-clause-err
 returns-then-not-has_id-clause-err c =
     let not : HasId c.args.bytes.now → false ≡ true =
     rw c.in_ok-block.ensures.read at c.if-not-has_id.ensures.1 in
-    inr (c.in_ok-block.ensures.block.sections, λ has. let no = not has in cc)
+    inr (c.in_ok-block.ensures.block, λ has. let no = not has in cc)
 
 pub invariant_of-result : goal.invariant_of-result
 invariant_of-result c = record {
