@@ -31,6 +31,7 @@ pub compared-as : {C : Type 0} (key : C → Key) (contents : List C) (s : ℕ) (
 compared-as key contents s k result now later l is = grind (arith, common_steps)
 
 module _ (keys : List Key) (k : Key) where
+  -- the key with this number
   abbrev pub key_at : ℕ → Key
   key_at i = get_or keys i []
 
@@ -50,6 +51,7 @@ module _ (keys : List Key) (k : Key) where
     pub others : All (λ i. key_at i ≢ k) seen
     pub events : now ≡ start ++ spent (passed + 1) seen
 
+  -- at the beginning of a search none was compared
   pub begins : (passed : ℕ) (numbers : List ℕ) (start now : List Event) →
       now ≡ start ++ replicate (passed + 1) step → IsSearching passed numbers numbers start now
   begins passed numbers start now e = record {
@@ -65,6 +67,7 @@ module _ (keys : List Key) (k : Key) where
   spent-push zero (i ∷ is) s = ap (λ es. compared k (key_at i) ∷ step ∷ es) (spent-push zero is s)
   spent-push (suc n) is s = ap (λ es. step ∷ es) (spent-push n is s)
 
+  -- it goes on by a comparison with another key, and a step
   pub goes_on : (passed : ℕ) (numbers rest : List ℕ) (s : ℕ) (start now middle later : List Event) →
       IsSearching passed numbers (s ∷ rest) start now → key_at s ≢ k
       → middle ≡ now ++ compared k (key_at s) ∷ [] → later ≡ middle ++ step ∷ [] →

@@ -5,6 +5,7 @@ use lib.Bits.{or_shifted_r}
 use Rattle.intaglio_hash.specs.Push.{number}
 
 module _ (bs : List ℕ) (byte : (k : ℕ) → get_or bs k 0 < 256) where
+  -- four bytes as one number are what std reads as 32 bits
   pub number-half : (i : ℕ) → number bs i 0 4 ≡ read_u32 bs i
   unfolding read_u32
   number-half i = rw (add-zero i) (omega arith)
@@ -21,6 +22,7 @@ module _ (bs : List ℕ) (byte : (k : ℕ) → get_or bs k 0 < 256) where
       let seven : i + 4 + 3 ≡ i + 7 = omega arith in
       rw (add-zero i, five, six, seven) (omega arith)
 
+  -- eight bytes as one number are what std reads as 64 bits
   pub number-word : (i : ℕ) → number bs i 0 8 ≡ read_u64 bs i
   unfolding read_u64
   number-word i =

@@ -1,3 +1,4 @@
+-- What the proofs share.
 pub mod FoldLemmas
 pub mod NumberLemmas
 pub mod PushLemmas

@@ -34,6 +34,7 @@ some_entries (x ∷ xs) n = (x, xs, refl)
 
 -- a symbol is put into a bucket
 module _ (size s h word : ℕ) (is_word : IsWord size (s, h) word) where
+  -- which is empty
   pub head_alone : (path : List (ℕ × ℕ)) → path ≡ [] →
       IsHead size (record { first = word; second = word }) (insert_sorted s h path)
   head_alone path none = rw none (is_word, is_word)
@@ -80,9 +81,11 @@ never_behind h path last none pred =
 
 -- the head of a list that is read off the hashes and links
 module _ (hashes links : List ℕ) (s : ℕ) where
+  -- its first symbol is placed
   pub thread_within : (path : List (ℕ × ℕ)) → IsThread hashes links (Some s) path → s < length hashes
   thread_within path t = path_within _ (next_of links) (Some s) _ path t.read (λ e is. is.0) t.path s refl
 
+  -- and so is its second
   pub thread_next : (path : List (ℕ × ℕ)) (next : ℕ) → IsThread hashes links (Some s) path →
       next_of links s ≡ Some next → next < length hashes
   thread_next [] next t e = (let never = t.path in cc)
@@ -110,9 +113,11 @@ Holds m heads filters hashes links = record {
 module _ {v : Placed} {m : Modulus} {heads : List Head} {filters hashes : List ℕ} {links : List Symbol}
     {room : ℕ} (view : ◌≡◌ {A = Placed} (record { count = length heads; hashes = hashes; room = room }) v)
     (holds : Holds m heads filters hashes links) where
+  -- there are as many heads as buckets
   pub count_is : v.count ≡ length heads
   count_is = ap (λ (v : Placed). v.count) (sym view)
 
+  -- the placed symbols are below 2^32
   pub numbered : length v.hashes ≤ 2 ^ 32
   numbered = rw (← view) holds.linked.numbered
 
@@ -124,6 +129,7 @@ module _ {v : Placed} {m : Modulus} {heads : List Head} {filters hashes : List �
   unfolding chain
   words_at k within = rw (← view) (holds.headed.words k (omega (arith, count_is, within)))
 
+  -- a bucket whose filter is 0 is empty
   pub is_vacant : (k filter : ℕ) → k < v.count → filter ≡ get_or filters k filter → filter ≡ 0 → chain v k ≡ []
   is_vacant k filter within read none = (empty_bucket_at k within).0
       (sym (get_or_read filters k filter (omega (arith, count_is, holds.filtered.size)) read 0) ∙ none)
@@ -137,6 +143,7 @@ module _ {v : Placed} {m : Modulus} {heads : List Head} {filters hashes : List �
       get_or_read heads k head (omega (arith, count_is)) read no_head in
       record { e = parts.0; es = parts.1; split = parts.2; is = rw (← same, parts.2) at (words_at k within) }
 
+  -- a bucket whose filter isn't 0 has a symbol
   pub is_occupied : (k : ℕ) (head : Head) (filter : ℕ) → k < v.count → head ≡ get_or heads k head →
       filter ≡ get_or filters k filter → (filter ≡ 0 → ⊥) → IsOccupied v k (m.mask + 1) head
   is_occupied k head filter within read_head read some = is_occupied_by k head within read_head (λ none.
@@ -144,12 +151,15 @@ module _ {v : Placed} {m : Modulus} {heads : List Head} {filters hashes : List �
       ∙ (empty_bucket_at k within).1 none))
 
 module _ (v : Placed) (k size : ℕ) (head : Head) (o : IsOccupied v k size head) where
+  -- the entries of a bucket with a symbol are placed symbols of it, with their hashes
   pub entries : AllByRecursion (IsEntry v.count k v.hashes) (o.e ∷ o.es)
   entries = rw o.split at (chain-entries v k)
 
+  -- its first symbol is the low bits of the first word
   pub leads : first_symbol_of (chain v k) ≡ Some (head.first % size)
   leads = ap first_symbol_of o.split ∙ ap (λ s. Some s) (sym o.is.0.1)
 
+  -- which is that of a placed symbol
   pub first_within : head.first % size < length v.hashes
   first_within = omega (arith, o.is.0.1, entries.0.0)
 
@@ -158,6 +168,7 @@ module _ (v : Placed) (k size : ℕ) (head : Head) (o : IsOccupied v k size head
   second_in [] is each = omega (arith, is.1.1, each.0.0)
   second_in (f ∷ fs) is each = omega (arith, is.1.1, each.1.0.0)
 
+  -- and so is the second word
   pub second_within : head.second % size < length v.hashes
   second_within = second_in o.es o.is entries
 

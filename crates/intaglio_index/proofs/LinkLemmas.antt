@@ -129,6 +129,7 @@ module _ {count : ℕ} {hashes : List ℕ} {links : List Symbol} (linked : IsLin
   pub first_reads : (b : ℕ) → option_map (entry_of hashes) (first_symbol_of (bucket b)) ≡ head_of (bucket b)
   first_reads b = read_path _ b (bucket b) (chain-each count b hashes) (linked.paths b)
 
+  -- the links from its first symbol form its chain
   pub thread_of : (b : ℕ) (first : Symbol) → Some first ≡ first_symbol_of (bucket b) →
       IsThread hashes links (Some first) (bucket b)
   thread_of b first leads = rw leads record {
@@ -142,6 +143,7 @@ module _ {count : ℕ} {hashes : List ℕ} {links : List Symbol} (linked : IsLin
       IsPath (next_of links) (next_of links e.0) (symbols_of rest)
   behind b front e rest split = path_behind (next_of links) _ front e rest (rw split at (linked.paths b))
 
+  -- that is the first of the entries behind it
   pub after_reads : (s : ℕ) (next : Option Symbol) → next ≡ next_of links s →
       (b hash : ℕ) (before rest : List (ℕ × ℕ)) → bucket b ≡ before ++ (s, hash) ∷ rest →
       option_map (entry_of hashes) next ≡ head_of rest

@@ -62,6 +62,7 @@ pub second_placed : (v : Placed) (h second : ℕ) (behind : IsBehind h (chain v 
 second_placed v h second behind = (rw behind.split at (chain-entries v (h % v.count))).1.0.0
 
 module _ (h : ℕ) (path : List (ℕ × ℕ)) (old now : List Event) where
+  -- the search goes on past a symbol with a smaller hash
   pub goes_on : (s k : ℕ) (new : List Event) (next : Option (ℕ × ℕ)) →
       IsReached h path old now (Some (s, k)) → k < h → new ≡ now ++ step ∷ [] →
       ((before behind : List (ℕ × ℕ)) → path ≡ before ++ (s, k) ∷ behind → next ≡ head_of behind) →
@@ -70,6 +71,7 @@ module _ (h : ℕ) (path : List (ℕ × ℕ)) (old now : List Event) where
       let on = moves h path s k next at.walk l after in
       record { walk = on.0; events = rw on.1 (steps_push old now new at.walk.front (s, k) at.events more) }
 
+  -- at a symbol with the hash it has found it
   pub finds : (s k : ℕ) → IsReached h path old now (Some (s, k)) → h ≡ k → IsFound h path old now s
   finds s k at same =
       let rest = standing h path (s, k) at.walk in
@@ -101,6 +103,7 @@ module _ (h : ℕ) (path : List (ℕ × ℕ)) (old now : List Event) where
   order_right [] rest o = o
   order_right (x ∷ front) rest o = order_right front rest o.1
 
+  -- and then no symbol of the bucket has the hash
   pub ends : (candidate : Option (ℕ × ℕ)) → IsReached h path old now candidate → InOrder path →
       MatchOption candidate (Unit {0}) (λ e. h < e.1) → AllByRecursion (λ (e : ℕ × ℕ). e.1 ≢ h) path
   ends candidate at order m =
@@ -232,11 +235,13 @@ module _ {v : Placed} {h size : ℕ} {head : Head} {word : ℕ} (read : IsRead v
     second_other : head.second / size ≢ h / size
     second_other q = true≢false (sym (tells (ap (λ w. w / size) (read.second first_other) ∙ q)) ∙ unmet)
 
+    -- and none has the hash, if that is below the second word, or if there is no second symbol
     pub head_absent : (h < head.second) ⊎ ((head.second ≤ h) × (head.first ≡ head.second)) →
         AllByRecursion (λ placed. placed ≢ h) v.hashes
     head_absent end = absent_on v h (rw read.occupied.split (none_by_words v h size head read.some _ _
         read.occupied.split read.occupied.is first_other second_other end))
 
+    -- otherwise the first two have smaller ones
     pub head_behind : head.second ≤ h → head.first ≢ head.second →
         IsBehind h (chain v (h % v.count)) (head.second % size)
     head_behind = both_below v h size head read.some _ _ read.occupied.split read.occupied.is second_other
@@ -244,6 +249,7 @@ module _ {v : Placed} {h size : ℕ} {head : Head} {word : ℕ} (read : IsRead v
   -- where it does, and is sure to be the hash, its symbol is the first with the hash
   module _ (high : word / size ≡ h / size) (sure : (get_or v.hashes (word % size) 0 ≡ h) ⊎ (v.count ≡ size))
       (old new : List Event) where
+    -- after one step, if it is the first word
     pub word_first : word ≡ head.first → new ≡ old ++ step ∷ [] →
         IsFound h (chain v (h % v.count)) old new (word % size)
     word_first is events =
@@ -259,6 +265,7 @@ module _ {v : Placed} {h size : ℕ} {head : Head} {word : ℕ} (read : IsRead v
           events = events;
         }
 
+    -- after two, if it is the second
     pub word_second : word ≢ head.first → new ≡ old ++ replicate 2 step →
         IsFound h (chain v (h % v.count)) old new (word % size)
     word_second other events =
@@ -316,6 +323,7 @@ module _ (v : Placed) (h size : ℕ) (head : Head) (some : 0 < size) (exact : v.
       }
 
   module _ (o : IsOccupied v (h % v.count) size head) where
+    -- if the first word isn't below the hash's high bits, the bucket begins at the hash or above it
     pub begins_above : h / size * size ≤ head.first → BeginsAtOrAbove h (chain v (h % v.count))
     begins_above l =
         rw o.split (above o.e head.first (rw o.split at (chain-entries v (h % v.count))).0 o.is.0 l)
@@ -332,6 +340,7 @@ module _ (v : Placed) (h size : ℕ) (head : Head) (some : 0 < size) (exact : v.
       others = begins_at o.e o.es o.split o.is second;
     }
 
+    -- if both words are below them, a walk behind the second symbol has passed smaller hashes alone
     pub behind_second : (candidate : Option (ℕ × ℕ)) → head.first < h / size * size →
         head.second < h / size * size → ((b hash : ℕ) (before behind : List (ℕ × ℕ)) →
         chain v b ≡ before ++ (head.second % size, hash) ∷ behind → candidate ≡ head_of behind) →

@@ -44,12 +44,14 @@ starts h path candidate e =
 
 -- a walk over the symbols with smaller hashes
 module _ (h : ℕ) (path : List (ℕ × ℕ)) where
+  -- its candidate stands behind them
   pub standing : (e : ℕ × ℕ) (walk : HasPassed h path (Some e)) → (behind : List (ℕ × ℕ))
       × (path ≡ walk.front ++ e ∷ behind)
   standing e walk =
       let rest = some-rest walk.rest e walk.next in
       (rest.0, walk.split ∙ ap (λ r. walk.front ++ r) rest.1)
 
+  -- it moves past a candidate with a smaller hash
   pub moves : (s k : ℕ) (next : Option (ℕ × ℕ)) (walk : HasPassed h path (Some (s, k))) → k < h →
       ((before behind : List (ℕ × ℕ)) → path ≡ before ++ (s, k) ∷ behind → next ≡ head_of behind) →
       (on : HasPassed h path next) × (on.front ≡ walk.front ++ (s, k) ∷ [])
@@ -65,6 +67,7 @@ module _ (h : ℕ) (path : List (ℕ × ℕ)) where
         refl,
       )
 
+  -- and then that is the last symbol before the next candidate
   pub goes_on : (last : Option ℕ) (s k : ℕ) (next : Option (ℕ × ℕ)) → IsAt h path last (Some (s, k)) → k < h →
       ((before behind : List (ℕ × ℕ)) → path ≡ before ++ (s, k) ∷ behind → next ≡ head_of behind) →
       IsAt h path (Some s) next
@@ -72,6 +75,7 @@ module _ (h : ℕ) (path : List (ℕ × ℕ)) where
       record { walk = on.0; last_is = (at.walk.front, k, on.1) }
 
 module _ (v : Placed) (b : ℕ) where
+  -- no symbol is in a bucket twice
   pub distinct : IsDistinct eqb (symbols_of (chain v b))
   unfolding chain
   distinct = chain-distinct v.count b v.hashes
@@ -87,6 +91,7 @@ module _ (v : Placed) (b : ℕ) where
       (rest.1 ∙ sym (append_assoc walk.front ((s, k) ∷ []) rest.0)) distinct (after walk.front rest.0 rest.1) in
       rw (now, then) (omega arith)
 
+  -- the candidate of a walk is a placed symbol
   pub within : (h s k : ℕ) → HasPassed h (chain v b) (Some (s, k)) → s < length v.hashes
   unfolding chain
   within h s k walk =

@@ -76,6 +76,7 @@ module _ (size : ℕ) (some : 0 < size) where
       mul-le-mul_right size (let q : b / size ≤ a / size = omega arith in q) in
       omega (arith, scaled, div-add-mod' a size, div-add-mod' b size)
 
+  -- and a word below the other's high bits is that of the lesser
   pub high_above : (a b word : ℕ) → word / size ≡ a / size → word < b / size * size → a < b
   high_above a b word same l =
       let blocks : word / size < b / size = div_below word size (b / size) some l in

@@ -34,11 +34,13 @@ kept {g = g} is none h = let size = ap length is.contents in record {
 }
 
 module _ {C : Type 0} (key : C → Key) (hash : Key → ℕ) where
+  -- an added content is placed once, beside the placements of a growth
   pub adding-places : (old next : State C) (k : Key) (now : List Event)
       (cost : IsAddingCost key hash old k next now) → placed_count now ≡ placed_count cost.growth + 1
   adding-places old next k now cost =
       simp (cost.parts, placed_count-append) (omega (arith, cost.searches.0.placements))
 
+  -- an interning hashes its key, and nothing else
   pub added-hashes : (o : Option ℕ) (old next : State C) (k : Key) (now : List Event)
       → MatchOption o (IsAddingCost key hash old k next now) (λ _. SearchCost key hash old k now) →
       hashed_keys now ≡ k ∷ []

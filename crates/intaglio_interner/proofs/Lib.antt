@@ -1,3 +1,4 @@
+-- What the proofs share.
 pub mod Names
 pub mod First
 pub mod Issue

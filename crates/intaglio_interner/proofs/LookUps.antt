@@ -11,6 +11,7 @@ LooksUp call = KeepsContents call
 
 module _ {C Q : Type 0} (key : C → Key) (value_key : Q → Key) (spelling : C → List ℕ) (adds : Q → List C →
     List C → Type 0) (copies : Bool) where
+  -- a look-up changes nothing
   pub look_up-same : (old new : State C) (call : Call Q) (r : Reply) → LooksUp call →
       Step key value_key spelling adds copies old call r new → new ≡ old
   look_up-same old new (Check q) (reply.Symbol x) looks step = step.1
@@ -36,6 +37,7 @@ module _ {C Q : Type 0} (key : C → Key) (value_key : Q → Key) (spelling : C 
   interns-as old new q reply.NoMemory step = (Err (intern_error.Memory alloc_error), step)
   interns-as old new q _ step = absurd step
 
+  -- so it keeps the contents, or adds one
   pub intern-either : (old new : State C) (q : Q) (r : Reply) →
       Step key value_key spelling adds copies old (Intern q) r new →
       IsKept old new ⊎ ((i : ℕ) × IsAdded (adds q) old i new)

@@ -1,3 +1,4 @@
+-- `at` is a multiple of 16, so the block that a turn mixes begins at 16 * (at / 16), as std's does.
 use Rattle.std.proofs.Common.{◌≡◌, ◌+◌, ◌*◌, ◌/◌, suc, ℕ, refl, arith}
 use Rattle.std.specs.Hash.FoldHasher.{mix_blocks}
 use Rattle.intaglio_hash.proofs.fixed_hasher.after_all.Goals as goal

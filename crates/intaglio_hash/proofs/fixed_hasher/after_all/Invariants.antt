@@ -1,3 +1,4 @@
+-- The state is that after the whole blocks before `at`.
 use Rattle.std.proofs.Common.{◌≡◌, ◌-◌, ◌/◌, ◌%◌, ◌<◌}
 use Rattle.std.specs.Hash.FoldHasher.{mix_blocks}
 use Rattle.intaglio_hash.proofs.fixed_hasher.after_all.Given as goal

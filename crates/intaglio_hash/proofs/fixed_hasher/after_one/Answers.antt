@@ -1,3 +1,5 @@
+-- Up to 16 bytes, no step comes before the last one, and the step isn't used. Above, one does, and `min`
+-- leaves its second offset at 8.
 use Rattle.std.proofs.Common.{◌≡◌, ◌-◌, ◌/◌, length, arith}
 use Rattle.std.specs.Hash.FoldHasher.{mix_blocks}
 use Rattle.intaglio_hash.proofs.fixed_hasher.after_one.Goals as goal

@@ -1,3 +1,5 @@
+-- Up to 48 bytes, two steps come before the last one, and the third step isn't used. Above, three do, and
+-- `min` leaves the offsets of the third at 32 and 40.
 use Rattle.std.proofs.Common.{◌≡◌, ◌-◌, ◌/◌, length, arith}
 use Rattle.std.specs.Hash.FoldHasher.{mix_blocks}
 use Rattle.intaglio_hash.proofs.fixed_hasher.after_three.Goals as goal

@@ -1,3 +1,4 @@
+-- The two words that are read are the numbers that std reads there (`number-word`).
 use Rattle.intaglio_hash.proofs.FoldLemmas.{number-word}
 use Rattle.intaglio_hash.proofs.fixed_hasher.mixed.Goals as goal
 

@@ -1,3 +1,5 @@
+-- From four bytes on, the halves that are read are the numbers that std reads (`number-half`). In each case
+-- the tests of the length in std's definition come out as the branch that was taken.
 use Rattle.std.proofs.Common.{length, ◌-◌}
 use Rattle.std.proofs.lemmas.Bool.{le-leb, lt-leb, lt-ltb, le-ltb}
 use Rattle.std.specs.Hash.FoldHasher.{read_short}

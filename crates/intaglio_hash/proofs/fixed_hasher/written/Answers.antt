@@ -1,3 +1,5 @@
+-- Above eight bytes, each class returns the state after the same number of blocks, so one last step suits
+-- all. For fewer than 16 bytes its first offset is 0 by `max`, as is `n - 16` in std's definition.
 use Rattle.std.proofs.Common.{◌≡◌, ◌+◌, ◌-◌, ◌/◌, ◌%◌, ◌^◌, ◌∙◌, length, arith}
 use Rattle.std.proofs.lemmas.Bool.{le-leb, lt-leb}
 use Rattle.std.specs.Hash.FoldHasher.{mix_blocks, write}

@@ -1,3 +1,5 @@
+-- From four bytes on, a shift takes from the last four those that are among the first four (`number-halves`).
+-- Of fewer, a byte may be read twice, but for the same place, where `or` leaves it (`number-bytes`).
 use Rattle.std.proofs.Common.{length}
 use Rattle.intaglio_hash.proofs.NumberLemmas.{number-halves, number-bytes}
 use Rattle.intaglio_hash.proofs.hasher.read_short.Goals as goal

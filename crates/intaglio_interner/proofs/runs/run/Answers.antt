@@ -1,3 +1,5 @@
+-- Each turn puts one step behind those so far (`Adds-push`, `growing-push`). In the end these are all calls,
+-- and the clauses on the whole run follow by lemmas on any run, or are parts of the invariant.
 use Rattle.intaglio_interner.proofs.Names.{◌≡◌, ◌∙◌, [], arith, append_assoc, append-nil, refl, sym, rules, into_iter_items, All-nil, common_steps, KeepsRoom}
 use Rattle.intaglio_interner.proofs.Growth.{Runs-hash, places, Runs-room, Runs-issue, Runs-roomier}
 use Rattle.intaglio_interner.proofs.Bytes.{All-next, StillRoom-next}

@@ -1,3 +1,5 @@
+-- The calls so far ran, and with the rest they are all calls. A step sees no room of the store, so `growths`,
+-- `bytes` and `still` say beside `ran` what becomes of that.
 use Rattle.intaglio_interner.proofs.Names.{◌≡◌, ℕ, ◌++◌, ◌+◌, ◌≤◌, vec_len, vec_capacity, into_iter_items, into_iter_len, Adds, RunsValues, HoldsBytes, Step, room, RunsGrowing}
 use Rattle.intaglio_interner.proofs.Bytes.{StillRoom}
 use Rattle.intaglio_interner.proofs.runs.run.Given as goal

@@ -1,3 +1,5 @@
+-- The bytes that were read are the spelling of the content at `i` (`read-there`), and two spellings have
+-- equal keys exactly if `same_spellings` says so.
 use Rattle.std.proofs.Common.{◌≡◌, ◌<◌, ◌∙◌, ℕ, List, sym, ap, length, slice_get, Some, []}
 use Rattle.std.specs.Option.{IfSome}
 use Rattle.std.proofs.lemmas.Option.{get_or_from_slice_get, slice_get-get_or}

@@ -1,3 +1,4 @@
+-- The first, the middle and the last of one byte are that byte: std reads it three times, as the code does.
 use Rattle.std.proofs.Common.{ℕ, [], ◌∷◌, ap, ◌∙◌}
 use Rattle.std.specs.Hash.FoldHasher.{read_short, write}
 use Rattle.std.specs.declared.hash.FoldHasher.{FoldHasher}

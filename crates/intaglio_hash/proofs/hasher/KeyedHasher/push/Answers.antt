@@ -1,3 +1,5 @@
+-- `after_push` branches as the code does: the bytes stay in the tail (`after_push-within`), or they fill a
+-- word, which is written, and what is left of them is the tail (`after_push-over`).
 use Rattle.std.proofs.Common.{◌+◌, ◌*◌, ◌/◌, ◌%◌, ◌-◌, ◌^◌, bit_or, ap, ◌∙◌, sym}
 use Rattle.std.specs.Hash.DefaultHasher.{wrapping_add, round, write_word}
 use Rattle.intaglio_hash.specs.Push.{with_tail}

@@ -1,3 +1,5 @@
+-- std's definition mixes the word in before the round and after it, as the code does. The contract of `round`
+-- stands between the two.
 use Rattle.std.proofs.Common.{ap, ◌∙◌}
 use Rattle.std.specs.Hash.DefaultHasher.{round, write_word}
 use Rattle.intaglio_hash.proofs.PushLemmas.{before_round, after_round}

@@ -1,3 +1,5 @@
+-- The steps are those of std's `finish`, each as its contract says: the last word, 255 mixed into v2, three
+-- rounds, and the exclusive or of the four words.
 use Rattle.std.proofs.Common.{ap, ◌∙◌}
 use Rattle.std.specs.Hash.DefaultHasher.{round, write_word, finish}
 use Rattle.intaglio_hash.proofs.PushLemmas.{last_word, with_end_mark, xor_of_words}

@@ -1,3 +1,5 @@
+-- std writes the bytes one by one. By `after_push-fold`, each push leads from the state after the bytes
+-- before it to the state after its own, and the last push to the state after all.
 use Rattle.std.proofs.Common.{◌+◌, ◌-◌, length, ap, ◌∙◌, arith, refl}
 use Rattle.std.specs.Hash.DefaultHasher.{write_byte, write}
 use Rattle.std.specs.List.{fold}

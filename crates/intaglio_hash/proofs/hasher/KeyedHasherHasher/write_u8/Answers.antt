@@ -1,3 +1,4 @@
+-- std writes the list of this one byte. A push of one byte leaves the same state (`after_push-fold`).
 use Rattle.std.proofs.Common.{◌≡◌, ◌+◌, ◌*◌, [], ◌∷◌, ap, ◌∙◌, arith, refl}
 use Rattle.std.specs.Hash.DefaultHasher.{write}
 use Rattle.intaglio_hash.specs.Push.{after_push}

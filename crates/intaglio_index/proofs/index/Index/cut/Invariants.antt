@@ -1,3 +1,4 @@
+-- The first symbols are left, and not fewer than `count`.
 use Rattle.std.proofs.Common.{◌≡◌, ◌≤◌, length, take}
 use Rattle.intaglio_index.proofs.index.Index.cut.Given as goal
 

@@ -1,3 +1,5 @@
+-- The number of buckets is a power of two (`exact`), so a word and its bucket give the whole hash, and a word
+-- that agrees is a hit. If none agrees, the second word tells whether the hash may be behind it.
 use Rattle.intaglio_index.proofs.Names.{common_steps}
 use Rattle.std.proofs.Common.{◌≡◌, ◌+◌, sym, ◌∙◌, arith, inr}
 use Rattle.intaglio_index.proofs.FilterLemmas.{marked-some}

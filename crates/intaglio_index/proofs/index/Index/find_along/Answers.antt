@@ -1,3 +1,5 @@
+-- Hashes don't decrease along a bucket. So at a greater hash, or at the end, no symbol has the sought one
+-- (`ends`), and then none at all has (`absent_on`).
 use Rattle.std.proofs.Common.{◌<◌, arith}
 use Rattle.intaglio_index.proofs.ChainLemmas.{chain-in_order}
 use Rattle.intaglio_index.proofs.SearchLemmas.{absent_on, ends, passes, finds, goes_on}

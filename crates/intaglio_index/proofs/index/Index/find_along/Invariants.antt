@@ -1,3 +1,5 @@
+-- The search is at the candidate, and has made a step for each symbol up to it. The clauses are about any
+-- events from which the arguments were reached, and `since` says this for all of them.
 use Rattle.std.proofs.Common.{List, length}
 use Rattle.intaglio_index.proofs.Names.{Event, IsReached, bucket_of}
 use Rattle.intaglio_index.proofs.WalkLemmas.{rest_of}

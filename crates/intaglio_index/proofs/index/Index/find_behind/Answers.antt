@@ -1,3 +1,5 @@
+-- Both words are those of smaller hashes, so after three steps the search is at the third symbol
+-- (`begins_third`), and goes on along the bucket.
 use Rattle.std.proofs.Common.{◌≡◌, List, ◌∷◌, [], ◌++◌, ◌%◌}
 use Rattle.intaglio_index.proofs.Names.{Event, step, IsReached}
 use Rattle.intaglio_index.specs.Placed.{chain}

@@ -1,3 +1,5 @@
+-- Here the bucket doesn't give the low bits of a hash, so a word that agrees is confirmed by the stored hash.
+-- If that differs, the search walks along the bucket from its first symbol.
 use Rattle.intaglio_index.proofs.Names.{common_steps, eqb-false, Placed, bucket_of, IsReached}
 use Rattle.std.proofs.Common.{◌≡◌, ◌+◌, ◌%◌, length, ap, ◌∙◌, arith, inl}
 use Rattle.intaglio_index.proofs.FilterLemmas.{marked-some}

@@ -1,3 +1,5 @@
+-- The stored hash is that of the symbol's entry (`own_hash`), so comparing the next entry with it decides as
+-- the clause does (`next_with`).
 use Rattle.std.proofs.Common.{◌≡◌, ℕ, List, ◌∷◌, ◌++◌, sym, ◌∙◌, refl}
 use Rattle.intaglio_index.proofs.Names.{eq-eqb, ne_eqb}
 use Rattle.intaglio_index.specs.Placed.{chain}

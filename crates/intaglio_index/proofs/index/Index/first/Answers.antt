@@ -1,3 +1,5 @@
+-- Without buckets nothing is placed (`no_buckets`), so the chain is empty. What is on a chain follows from
+-- the hashes alone (`chain-bucket`).
 use Rattle.intaglio_index.proofs.Names.{common_steps, eqb-true}
 use Rattle.std.proofs.Common.{arith}
 use Rattle.intaglio_index.proofs.ChainLemmas.{chain-bucket, none-placed}

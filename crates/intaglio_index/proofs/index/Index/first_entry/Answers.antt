@@ -1,3 +1,5 @@
+-- A bucket's first symbol is placed (`leader_within`), and with its stored hash it is the first entry of the
+-- chain (`first_reads`).
 use Rattle.std.proofs.Common.{sym, ap, ◌∙◌}
 use Rattle.intaglio_index.proofs.Names.{option_map, entry_of}
 use Rattle.intaglio_index.specs.Placed.{chain}

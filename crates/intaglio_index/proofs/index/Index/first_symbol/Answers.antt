@@ -1,3 +1,5 @@
+-- A filter of 0 says that the bucket is empty. In any other bucket, the low bits of the first word are the
+-- first symbol (`leads`), which is placed and so has a number below 2^32.
 use Rattle.std.proofs.Common.{arith, sym, ap, ◌∙◌, Some}
 use Rattle.intaglio_index.proofs.Names.{first_symbol_of}
 use Rattle.intaglio_index.proofs.HeadLemmas.{is_vacant, is_occupied, leads, first_within, numbered}

@@ -1,3 +1,5 @@
+-- A filter of 0 says that the bucket is empty (`is_vacant`). Then the symbol is alone in it: both words are
+-- its own (`head_alone`), and its link leads to itself (`place_first`).
 use Rattle.std.proofs.Common.{◌≡◌, ◌<◌, ◌%◌, [], length, arith, ◌∙◌, ap, refl, None}
 use Rattle.intaglio_index.proofs.Names.{chain_from}
 use Rattle.intaglio_index.specs.Placed.{chain}

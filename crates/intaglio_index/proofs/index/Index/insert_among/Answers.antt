@@ -1,3 +1,5 @@
+-- A symbol without a predecessor becomes the first, and its link leads to the one that was (`place_first`).
+-- Any other takes over its predecessor's link, which then leads to it (`place_behind`).
 use Rattle.intaglio_index.proofs.Names.{common_steps, IsPredecessor}
 use Rattle.std.proofs.Common.{◌≡◌, ℕ, ◌<◌, ◌%◌, length, arith, ◌∙◌}
 use Rattle.intaglio_index.specs.Placed.{chain}

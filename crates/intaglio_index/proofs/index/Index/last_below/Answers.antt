@@ -1,3 +1,4 @@
+-- A candidate is a placed symbol (`within`). Each step leaves less of the bucket (`falls`).
 use Rattle.intaglio_index.proofs.WalkLemmas.{within, falls, goes_on}
 use Rattle.intaglio_index.proofs.index.Index.last_below.Goals as goal
 

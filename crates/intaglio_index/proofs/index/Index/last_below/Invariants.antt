@@ -1,3 +1,4 @@
+-- All symbols before the candidate have smaller hashes, and `last` is the one directly before it.
 use Rattle.std.proofs.Common.{length}
 use Rattle.intaglio_index.proofs.Names.{IsAt, bucket_of}
 use Rattle.intaglio_index.proofs.WalkLemmas.{rest_of}

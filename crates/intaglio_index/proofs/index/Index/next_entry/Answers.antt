@@ -1,3 +1,5 @@
+-- By the invariant, the link of a placed symbol leads to a placed one (`link_within`), which is the next of
+-- its bucket (`after_reads`).
 use Rattle.std.proofs.Common.{◌<◌, length, sym, ◌∙◌}
 use Rattle.intaglio_index.specs.Placed.{chain}
 use Rattle.intaglio_index.proofs.LinkLemmas.{after_reads, link_within}

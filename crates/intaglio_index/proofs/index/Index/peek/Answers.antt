@@ -1,3 +1,4 @@
+-- What `find` returns is on a chain, so it is a placed symbol with that hash (`entry_placed`).
 use Rattle.intaglio_index.proofs.SearchLemmas.{each_some, entry_placed}
 use Rattle.intaglio_index.proofs.index.Index.peek.Goals as goal
 

@@ -1,3 +1,5 @@
+-- If the number of buckets is a power of two, all hashes of a bucket have the same low bits. So words are in
+-- the order of the hashes, and comparing the hash's high bits with both words tells which case it is.
 use Rattle.intaglio_index.proofs.Names.{common_steps}
 use Rattle.std.proofs.Common.{◌≡◌, ℕ, ◌<◌, ◌+◌, ◌%◌, ◌∷◌, ◌++◌, sym, ap, ◌∙◌, arith, inl, inr}
 use Rattle.intaglio_index.proofs.HeadLemmas.{IsOccupied, count_is, numbered, is_vacant, is_occupied, first_within, second_within}

@@ -1,3 +1,4 @@
+-- The first `i` symbols are placed in the new buckets, which is one event each.
 use Rattle.std.proofs.Common.{◌≡◌, ◌++◌, take, replicate}
 use Rattle.intaglio_index.proofs.Names.{placed}
 use Rattle.intaglio_index.proofs.index.Index.rebuilt.Given as goal

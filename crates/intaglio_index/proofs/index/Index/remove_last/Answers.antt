@@ -1,3 +1,5 @@
+-- If the last symbol has no predecessor, its bucket begins at its link then (`cut_first`). Otherwise the
+-- predecessor takes over that link, and the bucket begins as before (`cut_behind`).
 use Rattle.std.proofs.Common.{◌≡◌, ℕ, ◌%◌, ◌+◌, ◌-◌, [], length, arith, ◌∙◌, sym, Some, ap}
 use Rattle.intaglio_index.proofs.Names.{Placed, chain_from, first_symbol_of, next_of}
 use Rattle.intaglio_index.specs.Placed.{chain}

@@ -1,3 +1,4 @@
+-- There are as many copies as turns, and room for all.
 use Rattle.std.proofs.Common.{◌≡◌, ◌≤◌, replicate}
 use Rattle.intaglio_index.proofs.index.capacity.repeated.Given as goal
 

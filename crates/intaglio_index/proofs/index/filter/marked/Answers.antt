@@ -1,3 +1,4 @@
+-- The top three bits of a hash are below 8, so they number a bit of the byte. Setting it leaves the others.
 use Rattle.std.proofs.Common.{◌<◌, ◌/◌, ◌^◌, ◌∙◌, arith, inl, inr, ℕ, w8}
 use Rattle.intaglio_index.proofs.Names.{eqb_tells, bit_at_set_same, bit_at_set_other}
 use Rattle.intaglio_index.proofs.index.filter.marked.Goals as goal

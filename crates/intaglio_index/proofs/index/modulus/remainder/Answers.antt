@@ -1,3 +1,5 @@
+-- The quotient by the reciprocal isn't above the true one (`by_reciprocal`), and at most one below it
+-- (`by_reciprocal_near`). So the rest is the remainder, or is it after one subtraction.
 use Rattle.intaglio_index.proofs.Names.{common_steps}
 use Rattle.std.proofs.Common.{◌/◌, ◌*◌, ◌^◌, ◌≤◌, ◌<◌, ◌+◌, arith}
 use Rattle.intaglio_index.proofs.Remainders.{by_reciprocal, by_reciprocal_near, rest_is}

@@ -1,3 +1,5 @@
+-- If none was hashed, now the whole group is. So in both cases `hashes` ends with those of the first `ahead`
+-- values, and the first of these is the value's own (`hashed-first`).
 use Rattle.intaglio_interner.proofs.Names.{common_steps, ℕ, ◌<◌, ◌≤◌, arith, ◌∙◌, AreHashed}
 use Rattle.intaglio_interner.proofs.Groups.{hashed-first}
 use Rattle.intaglio_interner.proofs.batch.ahead.next_of_group.Goals.{then-ahead-eq0, else-ahead-eq0}

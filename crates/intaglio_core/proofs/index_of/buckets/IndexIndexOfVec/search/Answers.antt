@@ -1,3 +1,5 @@
+-- `find` and `find_next` give all symbols with the hash, one after the other. So a walk to the end has
+-- compared each content that can have the key (`ends`), and a hit is the only one that has it (`finds`).
 use Rattle.intaglio_core.proofs.Names.{common_steps, ◌≡◌, None, Option, Some, slice_get, arith, rules}
 use Rattle.std.specs.Option.{IfSome}
 use Rattle.intaglio_core.proofs.Walking.{passes, begins, within, ends, finds, goes_on, falls}

@@ -1,3 +1,5 @@
+-- The contents with the hash that come before the candidate were compared, and none has the key. This holds
+-- for each function by which the contents may have been hashed.
 use Rattle.intaglio_core.proofs.Names.{ℕ, length, Key, AreHashed}
 use Rattle.intaglio_core.proofs.Walking.{IsWalking, rest_at}
 use Rattle.intaglio_core.proofs.index_of.buckets.IndexIndexOfVec.search.Given as goal

@@ -1,3 +1,5 @@
+-- The links from the first symbol lead only to placed symbols, so the first two have hashes, and numbers that
+-- the mask leaves room for.
 use Rattle.intaglio_index.proofs.Names.{common_steps}
 use Rattle.std.proofs.Common.{sym, ◌∙◌, arith}
 use Rattle.intaglio_index.proofs.HeadLemmas.{thread_within, thread_next}

@@ -1,3 +1,5 @@
+-- Behind the first symbol the new word is the second one (`head_second`). Further behind, both words stay
+-- (`head_stays`). An empty bucket has no predecessor.
 use Rattle.std.proofs.Common.{sym, ◌∙◌}
 use Rattle.intaglio_index.proofs.Names.{eqb-true, eqb-false}
 use Rattle.intaglio_index.proofs.HeadLemmas.{head_second, head_stays, never_behind, nil_leader}

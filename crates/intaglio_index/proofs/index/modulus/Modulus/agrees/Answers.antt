@@ -1,3 +1,4 @@
+-- The xor of two numbers is at most the mask exactly if no bit above the mask differs (`agrees_is`).
 use Rattle.std.proofs.Common.{◌≡◌, ◌↔◌, ◌+◌, ◌/◌, ◌≤◌}
 use Rattle.intaglio_index.proofs.Names.{bit_xor, leb-true, le-leb}
 use Rattle.intaglio_index.proofs.Words.{agrees_is}

@@ -1,3 +1,4 @@
+-- A number masked by a power of two minus one is its remainder by that power.
 use Rattle.intaglio_index.proofs.Remainders.{masked}
 use Rattle.intaglio_index.proofs.index.modulus.Modulus.masked.Goals as goal
 

@@ -1,3 +1,5 @@
+-- If `checked_next_power_of_two` returns `None`, the mask has all 64 bits set. Then the power is 2^64, and
+-- each count is within it.
 use Rattle.intaglio_index.proofs.Names.{common_steps, IsPowerOfTwo}
 use Rattle.std.proofs.Common.{◌+◌, ◌<◌, ◌≤◌, ◌^◌, arith, refl}
 use Rattle.intaglio_index.proofs.index.modulus.Modulus.new.Goals as goal

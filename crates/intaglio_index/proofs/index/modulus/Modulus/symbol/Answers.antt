@@ -1,3 +1,4 @@
+-- What the mask leaves of a word is its remainder by a power of two (`masked`).
 use Rattle.std.proofs.Common.{◌≡◌, ◌+◌, ◌%◌, refl, ◌∙◌}
 use Rattle.intaglio_index.proofs.Names.{bit_and}
 use Rattle.intaglio_index.proofs.Remainders.{masked}

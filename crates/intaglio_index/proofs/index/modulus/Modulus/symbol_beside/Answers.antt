@@ -1,3 +1,5 @@
+-- The word and the hash differ under the mask alone, where the bucket is the hash. So the xor of the three is
+-- what the word has there (`low_beside`).
 use Rattle.std.proofs.Common.{◌∙◌}
 use Rattle.intaglio_index.proofs.Words.{low_beside}
 use Rattle.intaglio_index.proofs.index.modulus.Modulus.symbol_beside.Goals as goal

@@ -1,3 +1,5 @@
+-- The symbol fits under the mask, so adding it fills cleared bits alone. The sum has the hash's high bits
+-- (`word_is`), and 64 bits in total (`word_fits`).
 use Rattle.intaglio_index.proofs.Names.{common_steps}
 use Rattle.std.proofs.Common.{◌+◌, arith}
 use Rattle.intaglio_index.proofs.Words.{word_is, word_fits}
