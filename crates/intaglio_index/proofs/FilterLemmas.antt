@@ -21,15 +21,15 @@ filtered-push filters count hashes hash mark filtered within marked kept =
     }
 
 -- fewer hashes
-pub filtered-take : (filters : List ℕ) (count : ℕ) (hashes : List ℕ) (n : ℕ) →
+pub filtered-take : {filters : List ℕ} {count : ℕ} {hashes : List ℕ} (n : ℕ) →
     IsFiltered filters count hashes → IsFiltered filters count (take n hashes)
-filtered-take filters count hashes n filtered = grind (arith, common_steps)
+filtered-take n filtered = grind (arith, common_steps)
 
 -- a filter whose bucket is empty needs no bit
-pub filtered-vacated : (filters : List ℕ) (count : ℕ) (hashes : List ℕ) (k : ℕ) →
+pub filtered-vacated : {filters : List ℕ} {count : ℕ} {hashes : List ℕ} (k : ℕ) →
     IsFiltered filters count hashes → chain_from count k 0 [] hashes ≡ [] →
     IsFiltered (set filters k 0) count hashes
-filtered-vacated filters count hashes k filtered none =
+filtered-vacated {filters} {count} {hashes} k filtered none =
     let marked = All-from_recursion _ hashes filtered.marks in
     record {
       size = length-set filters k 0 ∙ filtered.size;

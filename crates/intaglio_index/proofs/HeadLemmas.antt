@@ -80,18 +80,18 @@ never_behind h path last none pred =
     omega (arith, ap length parts, length-append pred.front ((last, pred.hash) ∷ pred.behind)))
 
 -- the head of a list that is read off the hashes and links
-module _ (hashes links : List ℕ) (s : ℕ) where
+module _ {hashes links : List ℕ} {s : ℕ} where
   -- its first symbol is placed
   pub thread_within : (path : List (ℕ × ℕ)) → IsThread hashes links (Some s) path → s < length hashes
-  thread_within path t = path_within _ (next_of links) (Some s) _ path t.read (λ e is. is.0) t.path s refl
+  thread_within path t = path_within (next_of links) path t.read (λ e is. is.0) t.path s refl
 
   -- and so is its second
-  pub thread_next : (path : List (ℕ × ℕ)) (next : ℕ) → IsThread hashes links (Some s) path →
+  pub thread_next : (path : List (ℕ × ℕ)) {next : ℕ} → IsThread hashes links (Some s) path →
       next_of links s ≡ Some next → next < length hashes
-  thread_next [] next t e = (let never = t.path in cc)
-  thread_next (x ∷ es) next t e =
+  thread_next [] t e = (let never = t.path in cc)
+  thread_next (x ∷ es) {next} t e =
       let same : s ≡ x.0 = (let q = t.path.0 in cc) in
-      path_within _ (next_of links) (next_of links x.0) _ es t.read.1 (λ e is. is.0) t.path.1 next (rw same at e)
+      path_within (next_of links) es t.read.1 (λ e is. is.0) t.path.1 next (rw same at e)
 
 -- a bucket with a symbol, and its head
 pub record IsOccupied (v : Placed) (k size : ℕ) (head : Head) : Type 0 where
@@ -150,7 +150,7 @@ module _ {v : Placed} {m : Modulus} {heads : List Head} {filters hashes : List �
       some (get_or_read filters k filter (omega (arith, count_is, holds.filtered.size)) read 0
       ∙ (empty_bucket_at k within).1 none))
 
-module _ (v : Placed) (k size : ℕ) (head : Head) (o : IsOccupied v k size head) where
+module _ {v : Placed} {k size : ℕ} {head : Head} (o : IsOccupied v k size head) where
   -- the entries of a bucket with a symbol are placed symbols of it, with their hashes
   pub entries : AllByRecursion (IsEntry v.count k v.hashes) (o.e ∷ o.es)
   entries = rw o.split at (chain-entries v k)
@@ -210,7 +210,7 @@ module _ {m : Modulus} {heads : List Head} {filters hashes : List ℕ} {links : 
       }
 
   -- one hash more
-  pub holds_pushed : (hash mark filter : ℕ) (head : Head) (after : List Symbol) →
+  pub holds_pushed : (hash mark : ℕ) {filter : ℕ} (head : Head) {after : List Symbol} →
       hash % length heads < length heads → filter ≡ get_or filters (hash % length heads) filter →
       IsMarked mark hash → ((other : ℕ) → IsMarked filter other → IsMarked mark other) →
       IsHead (m.mask + 1) head
@@ -218,7 +218,7 @@ module _ {m : Modulus} {heads : List Head} {filters hashes : List ℕ} {links : 
       IsLinked (length heads) (hashes ++ hash ∷ []) after →
       Holds m (set heads (hash % length heads) head) (set filters (hash % length heads) mark)
       (hashes ++ hash ∷ []) after
-  holds_pushed hash mark filter head after within read marked kept is linked =
+  holds_pushed hash mark {filter} head {after} within read marked kept is linked =
       let k : ℕ = hash % length heads in
       let same = get_or_read filters k filter (omega (arith, holds.filtered.size)) read 0 in
       let grows = chain-grows (length heads) hashes hash in
@@ -244,7 +244,7 @@ module _ {m : Modulus} {heads : List Head} {filters hashes : List ℕ} {links : 
     holds_vacated after linked empty = rw (set-get_or heads (hash % length heads) no_head) at
         (holds_changed (take i hashes) after (hash % length heads) (get_or heads (hash % length heads) no_head) 0 within
         (others_stay holds.linked hash i last read) (λ e. empty, λ e. refl) (rw empty tt) linked
-        (filtered-vacated _ _ _ _ (filtered-take _ _ _ i holds.filtered) empty))
+        (filtered-vacated _ (filtered-take i holds.filtered) empty))
 
     -- and begins with this symbol
     pub holds_read : (after : List Symbol) (head : Head) (first : Symbol) →
@@ -257,7 +257,7 @@ module _ {m : Modulus} {heads : List Head} {filters hashes : List ℕ} {links : 
         rw same at (holds_changed (take i hashes) after (hash % length heads) head
         (get_or filters (hash % length heads) 0) within
         (others_stay holds.linked hash i last read) (neither marked (led_some _ _ leads)) is linked
-        (rw same (filtered-take _ _ _ i holds.filtered)))
+        (rw same (filtered-take i holds.filtered)))
 
 -- whether a bucket has no symbol
 pub alone_is : (path : List (ℕ × ℕ)) (first_symbol : Option ℕ) (alone : Bool) →

@@ -54,14 +54,14 @@ in_no_other count b k hashes p h entry other =
     ))
 
 -- one bucket changes
-linked_changed : (count : ℕ) (hashes later : List ℕ) (links after : List Symbol) (k : ℕ) →
+linked_changed : {count : ℕ} {hashes later : List ℕ} {links after : List Symbol} (k : ℕ) →
     IsLinked count hashes links →
     ((b : ℕ) → b ≢ k → chain_from count b 0 [] later ≡ chain_from count b 0 [] hashes) → ((b : ℕ) → b ≢ k →
     AllByRecursion (λ (e : ℕ × ℕ). next_of after e.0 ≡ next_of links e.0) (chain_from count b 0 [] hashes))
     → IsPath (next_of after) (first_symbol_of (chain_from count k 0 [] later))
     (symbols_of (chain_from count k 0 [] later))
     → length after ≡ length later → length later ≤ count → length later ≤ 2 ^ 32 → IsLinked count later after
-linked_changed count hashes later links after k linked others same here paired few numbered = record {
+linked_changed {links = links} {after = after} k linked others same here paired few numbered = record {
   paths = λ b. elim (eqb_tells b k) [
     | inl e ↦ rw e.1 here
     | inr n ↦ rw (others b n.1) (path_kept (next_of links) (next_of after) _ _ (same b n.1) (linked.paths b))
@@ -103,11 +103,11 @@ leader_same [] e xs ys = refl
 leader_same (x ∷ front) e xs ys = refl
 
 -- no path begins past the placed symbols
-pub path_within : (P : ℕ × ℕ → Type 0) (next : ℕ → Option Symbol) (start : Option Symbol) (n : ℕ)
+pub path_within : {P : ℕ × ℕ → Type 0} (next : ℕ → Option Symbol) {start : Option Symbol} {n : ℕ}
     (es : List (ℕ × ℕ)) → AllByRecursion P es → ((e : ℕ × ℕ) → P e → e.0 < n) →
     IsPath next start (symbols_of es) → (t : Symbol) → start ≡ Some t → t < n
-path_within P next start n [] a f h t e = (let never : Some t ≡ None = sym e ∙ h in cc)
-path_within P next start n (x ∷ es) a f h t e =
+path_within next [] a f h t e = (let never : Some t ≡ None = sym e ∙ h in cc)
+path_within next (x ∷ es) a f h t e =
     (let same : Some t ≡ Some x.0 = sym e ∙ h.0 in let q : t ≡ x.0 = cc in omega (arith, q, f x a.0))
 
 module _ {count : ℕ} {hashes : List ℕ} {links : List Symbol} (linked : IsLinked count hashes links) where
@@ -148,24 +148,24 @@ module _ {count : ℕ} {hashes : List ℕ} {links : List Symbol} (linked : IsLin
       (b hash : ℕ) (before rest : List (ℕ × ℕ)) → bucket b ≡ before ++ (s, hash) ∷ rest →
       option_map (entry_of hashes) next ≡ head_of rest
   after_reads s next e b hash before rest split =
-      rw e (read_path _ b rest (chain-entry _ _ _ _ _ _ split).1 (behind b _ _ _ split))
+      rw e (read_path _ b rest (chain-entry count b hashes _ _ _ split).1 (behind b _ _ _ split))
 
   -- each symbol is on the path of its bucket, so no link leads past the placed ones
   pub link_within : (s : ℕ) (t : Symbol) → s < length hashes → next_of links s ≡ Some t → t < length hashes
   link_within s t l e =
       let k : ℕ = get_or hashes s 0 % count in
       let here = entry-split (bucket k) s (chain-complete count k hashes s l refl) in
-      path_within _ _ _ _ here.2 (chain-entry _ _ _ _ _ _ here.3).1 (λ e is. is.0)
+      path_within _ here.2 (chain-entry count k hashes _ _ _ here.3).1 (λ e is. is.0)
       (rw here.4 at (behind k _ _ _ here.3)) t e
 
   -- a bucket's first symbol is among the placed ones
   pub leader_within : (b : ℕ) (s : Symbol) → first_symbol_of (bucket b) ≡ Some s → s < length hashes
   leader_within b s e =
-      path_within _ _ _ _ (bucket b) (chain-each count b hashes) (λ e is. is.0) (linked.paths b) s e
+      path_within _ (bucket b) (chain-each count b hashes) (λ e is. is.0) (linked.paths b) s e
 
   -- a predecessor is among the placed symbols
   pub predecessor_within : (hash b p : ℕ) → IsPredecessor hash (bucket b) p → p < length hashes
-  predecessor_within hash b p pred = (chain-entry _ _ _ _ _ _ pred.split).0.0
+  predecessor_within hash b p pred = (chain-entry count b hashes _ _ _ pred.split).0.0
 
   module _ (hash : ℕ) (symbol : Symbol) (numbered : symbol ≡ length hashes) (small : symbol < 2 ^ 32)
       (free : symbol < count) where
@@ -179,7 +179,7 @@ module _ {count : ℕ} {hashes : List ℕ} {links : List Symbol} (linked : IsLin
         IsLinked count (hashes ++ hash ∷ []) after
     placed_linked after size kept path =
         let more = length-append hashes (hash ∷ []) in
-        linked_changed _ _ _ _ after (hash % count) linked (λ b n. chain-stays count b hashes hash n) kept
+        linked_changed (hash % count) linked (λ b n. chain-stays count b hashes hash n) kept
         (rw (chain-grows count hashes hash, ← numbered) path) (omega (arith, size, more, linked.paired))
         (omega (arith, free, numbered, more)) (omega (arith, small, numbered, more))
 
@@ -225,14 +225,17 @@ module _ {count : ℕ} {hashes : List ℕ} {links : List Symbol} (linked : IsLin
         let same : (e : ℕ × ℕ) → IsOther (length hashes) p e → next_of all e.0 ≡ next_of links e.0 = λ e h.
         ap (target_of e.0) (get_or-set_other more p e.0 symbol 0 h.1
         ∙ get_or_append_left links (link ∷ []) 0 e.0 (omega (arith, h.0, linked.paired))) in
-        let entry = (chain-entry _ _ _ _ _ _ pred.split).0 in
+        let entry = (chain-entry count k hashes _ _ _ pred.split).0 in
         let others = beside count k hashes pred.front (p, pred.hash) pred.behind
         (rw pred.split at (chain-each count k hashes)) (rw pred.split at (chain-distinct count k hashes)) in
         placed_linked all (length-set more p symbol ∙ size)
         (λ b n. Each-so _ _ _ (in_no_other count b k hashes p pred.hash entry n) same)
         (rw (put-behind symbol hash (bucket k) p pred, leader_same pred.front (p, pred.hash) _ pred.behind)
-        (path_spliced (next_of links) _ _ pred.front _ pred.behind _ (Each-so _ _ _ others.0 same)
-        (at_p, rw at_n (path_kept _ _ _ _ (Each-so _ _ _ others.1 same) (behind k _ _ _ pred.split)))
+        (path_spliced (next_of links) _ _ pred.front _ pred.behind _ (Each-so _ _ _ others.0 same) (
+          at_p,
+          rw at_n (path_kept _ (next_of all) _ _ (Each-so _ _ _ others.1 same)
+              (behind k _ _ _ pred.split)),
+        )
         (rw pred.split at (linked.paths k))))
 
   -- the last symbol is taken out of its bucket
@@ -259,7 +262,7 @@ module _ {count : ℕ} {hashes : List ℕ} {links : List Symbol} (linked : IsLin
         AllByRecursion (λ (e : ℕ × ℕ). next_of after e.0 ≡ next_of links e.0) (left b)) →
         IsPath (next_of after) (first_symbol_of (left (hash % count))) (symbols_of (left (hash % count))) →
         IsLinked count (take i hashes) after
-    left_linked after size kept path = linked_changed _ _ _ _ after (hash % count) linked others_stay
+    left_linked after size kept path = linked_changed (hash % count) linked others_stay
         (λ b n. rw (← others_stay b n) (kept b n)) path (size ∙ sym left_size)
         (omega (arith, left_size, linked.few)) (omega (arith, left_size, linked.numbered))
 

@@ -17,7 +17,7 @@ absent_on v hash none = recursion_from_All (λ placed. placed ≢ hash) v.hashes
     (let at : get_or v.hashes i 0 ≡ hash = get_or_default v.hashes i 0 d l ∙ e in
     let found = chain-complete v.count (hash % v.count) v.hashes i l (rw at refl) in
     let parts = entry-split (chain_from v.count (hash % v.count) 0 [] v.hashes) i found in
-    let entry = (chain-entry _ _ _ _ _ _ parts.3).0 in
+    let entry = (chain-entry v.count _ v.hashes _ _ _ parts.3).0 in
     let other = (Each-right _ parts.0 (parts.1 ∷ parts.2) (rw parts.3 at none)).0 in
     other (sym (entry.1 0) ∙ ap (λ s. get_or v.hashes s 0) parts.4 ∙ at)))
 
@@ -32,9 +32,9 @@ steps_push : (old now new : List Event) (front : List (ℕ × ℕ)) (e : ℕ × 
 steps_push old now new front e events more = grind (arith, common_steps)
 
 -- the search is at the bucket's first symbol
-pub begins : (h : ℕ) (path : List (ℕ × ℕ)) (old now : List Event) (candidate : Option (ℕ × ℕ)) →
+pub begins : {h : ℕ} {path : List (ℕ × ℕ)} {old now : List Event} {candidate : Option (ℕ × ℕ)} →
     now ≡ old ++ step ∷ [] → candidate ≡ head_of path → IsReached h path old now candidate
-begins h path old now candidate events next =
+begins {path = path} events next =
     record {
       walk = record { front = []; rest = path; split = refl; next = next; smaller = tt };
       events = events;
@@ -42,10 +42,10 @@ begins h path old now candidate events next =
 
 -- behind the first two
 pub begins_third : {h : ℕ} {path : List (ℕ × ℕ)} {second : ℕ} (behind : IsBehind h path second)
-    (old now : List Event) (candidate : Option (ℕ × ℕ)) →
+    {old now : List Event} {candidate : Option (ℕ × ℕ)} →
     ((before rest : List (ℕ × ℕ)) → path ≡ before ++ (second, behind.hash) ∷ rest → candidate ≡ head_of rest) →
     now ≡ old ++ replicate 3 step → IsReached h path old now candidate
-begins_third {second = second} behind old now candidate after events = record {
+begins_third {second = second} behind after events = record {
   walk = record {
     front = behind.first ∷ (second, behind.hash) ∷ [];
     rest = behind.rest;
@@ -57,24 +57,37 @@ begins_third {second = second} behind old now candidate after events = record {
 }
 
 -- the second is a placed symbol
-pub second_placed : (v : Placed) (h second : ℕ) (behind : IsBehind h (chain v (h % v.count)) second) →
+pub second_placed : (v : Placed) (h : ℕ) {second : ℕ} (behind : IsBehind h (chain v (h % v.count)) second) →
     second < length v.hashes
-second_placed v h second behind = (rw behind.split at (chain-entries v (h % v.count))).1.0.0
+second_placed v h behind = (rw behind.split at (chain-entries v (h % v.count))).1.0.0
 
-module _ (h : ℕ) (path : List (ℕ × ℕ)) (old now : List Event) where
+-- if a greater hash is next, or nothing is left, none of the entries that are left has the hash
+others : (h : ℕ) (candidate : Option (ℕ × ℕ)) (rest : List (ℕ × ℕ)) → candidate ≡ head_of rest →
+    InOrder rest → MatchOption candidate (Unit {0}) (λ e. h < e.1) → AllByRecursion (λ (e : ℕ × ℕ). e.1 ≢ h) rest
+others h candidate [] next order m = tt
+others h candidate (x ∷ xs) next order m =
+    let above : h < x.1 = rw next at m in
+    ((λ q. omega arith), Each-so _ _ xs order.0 (λ e l q. omega arith))
+
+-- if hashes don't decrease along a list, they don't along what stands behind its front
+order_right : (front rest : List (ℕ × ℕ)) → InOrder (front ++ rest) → InOrder rest
+order_right [] rest o = o
+order_right (x ∷ front) rest o = order_right front rest o.1
+
+module _ {h : ℕ} {path : List (ℕ × ℕ)} {old now : List Event} where
   -- the search goes on past a symbol with a smaller hash
-  pub goes_on : (s k : ℕ) (new : List Event) (next : Option (ℕ × ℕ)) →
+  pub goes_on : {s k : ℕ} {new : List Event} {next : Option (ℕ × ℕ)} →
       IsReached h path old now (Some (s, k)) → k < h → new ≡ now ++ step ∷ [] →
       ((before behind : List (ℕ × ℕ)) → path ≡ before ++ (s, k) ∷ behind → next ≡ head_of behind) →
       IsReached h path old new next
-  goes_on s k new next at l more after =
-      let on = moves h path s k next at.walk l after in
+  goes_on {s} {k} {new} at l more after =
+      let on = moves at.walk l after in
       record { walk = on.0; events = rw on.1 (steps_push old now new at.walk.front (s, k) at.events more) }
 
   -- at a symbol with the hash it has found it
-  pub finds : (s k : ℕ) → IsReached h path old now (Some (s, k)) → h ≡ k → IsFound h path old now s
-  finds s k at same =
-      let rest = standing h path (s, k) at.walk in
+  pub finds : {s k : ℕ} → IsReached h path old now (Some (s, k)) → h ≡ k → IsFound h path old now s
+  finds {s} at same =
+      let rest = standing at.walk in
       record {
         front = at.walk.front;
         behind = rest.0;
@@ -83,31 +96,20 @@ module _ (h : ℕ) (path : List (ℕ × ℕ)) (old now : List Event) where
         events = at.events;
       }
 
-  -- nothing is left, or a greater hash
-  pub passes : (candidate : Option (ℕ × ℕ)) → IsReached h path old now candidate → IsPassed path old now
-  passes candidate at =
+  -- wherever it is, it has made few steps
+  pub passes : {candidate : Option (ℕ × ℕ)} → IsReached h path old now candidate → IsPassed path old now
+  passes at =
       record {
         more = length at.walk.front;
         few = omega (arith, ap length at.walk.split, length-append at.walk.front at.walk.rest);
         events = at.events;
       }
 
-  others : (candidate : Option (ℕ × ℕ)) (rest : List (ℕ × ℕ)) → candidate ≡ head_of rest → InOrder rest →
-      MatchOption candidate (Unit {0}) (λ e. h < e.1) → AllByRecursion (λ (e : ℕ × ℕ). e.1 ≢ h) rest
-  others candidate [] next order m = tt
-  others candidate (x ∷ xs) next order m =
-      let above : h < x.1 = rw next at m in
-      ((λ q. omega arith), Each-so _ _ xs order.0 (λ e l q. omega arith))
-
-  order_right : (front rest : List (ℕ × ℕ)) → InOrder (front ++ rest) → InOrder rest
-  order_right [] rest o = o
-  order_right (x ∷ front) rest o = order_right front rest o.1
-
-  -- and then no symbol of the bucket has the hash
-  pub ends : (candidate : Option (ℕ × ℕ)) → IsReached h path old now candidate → InOrder path →
+  -- at the end, or at a greater hash, no symbol of the bucket has the hash
+  pub ends : {candidate : Option (ℕ × ℕ)} → IsReached h path old now candidate → InOrder path →
       MatchOption candidate (Unit {0}) (λ e. h < e.1) → AllByRecursion (λ (e : ℕ × ℕ). e.1 ≢ h) path
-  ends candidate at order m =
-      let behind = others candidate at.walk.rest at.walk.next
+  ends {candidate} at order m =
+      let behind = others h candidate at.walk.rest at.walk.next
       (order_right at.walk.front at.walk.rest (rw at.walk.split at order)) m in
       let front = Each-so _ _ at.walk.front at.walk.smaller (λ e l q. omega arith) in
       rw at.walk.split (Each-append _ at.walk.front at.walk.rest front behind)
@@ -200,17 +202,17 @@ pub entry_placed : (v : Placed) (b s h : ℕ) (before behind : List (ℕ × ℕ)
     chain v b ≡ before ++ (s, h) ∷ behind → (s < length v.hashes) × (get_or v.hashes s 0 ≡ h)
 unfolding chain
 entry_placed v b s h before behind split =
-    let entry = (chain-entry _ _ _ _ _ _ split).0 in (entry.0, entry.1 0)
+    let entry = (chain-entry v.count b v.hashes _ _ _ split).0 in (entry.0, entry.1 0)
 
 -- steps one after the other
-pub two_steps : (old a b : List Event) → a ≡ old ++ step ∷ [] → b ≡ a ++ step ∷ [] →
+pub two_steps : (old : List Event) {a b : List Event} → a ≡ old ++ step ∷ [] → b ≡ a ++ step ∷ [] →
     b ≡ old ++ replicate 2 step
-two_steps old a b e f = rw (f, e, append_assoc) refl
+two_steps old e f = rw (f, e, append_assoc) refl
 
 -- a step after a step after a step are three steps
-pub three_steps : (old a b d : List Event) → a ≡ old ++ step ∷ [] → b ≡ a ++ step ∷ [] → d ≡ b ++ step ∷ [] →
-    d ≡ old ++ replicate 3 step
-three_steps old a b d e f g = rw (g, f, e, append_assoc, append_assoc) refl
+pub three_steps : (old : List Event) {a b d : List Event} → a ≡ old ++ step ∷ [] → b ≡ a ++ step ∷ [] →
+    d ≡ b ++ step ∷ [] → d ≡ old ++ replicate 3 step
+three_steps old e f g = rw (g, f, e, append_assoc, append_assoc) refl
 
 -- the head of a hash's bucket, with the word of it that agrees with the hash, if one does
 pub record IsRead (v : Placed) (h size : ℕ) (head : Head) (word : ℕ) : Type 0 where
@@ -223,8 +225,8 @@ module _ {v : Placed} {h size : ℕ} {head : Head} {word : ℕ} (read : IsRead v
   -- the word is that of a placed symbol
   pub word_within : word % size < length v.hashes
   word_within = elim (eqb_tells (head.first / size) (h / size)) [
-    | inl same ↦ rw (read.first same.1) (first_within v (h % v.count) size head read.occupied)
-    | inr other ↦ rw (read.second other.1) (second_within v (h % v.count) size head read.occupied)
+    | inl same ↦ rw (read.first same.1) (first_within read.occupied)
+    | inr other ↦ rw (read.second other.1) (second_within read.occupied)
   ]
 
   -- where it doesn't agree, neither word does

@@ -43,20 +43,20 @@ starts h path candidate e =
     record { walk = record { front = []; rest = path; split = refl; next = e; smaller = tt }; last_is = refl }
 
 -- a walk over the symbols with smaller hashes
-module _ (h : ℕ) (path : List (ℕ × ℕ)) where
+module _ {h : ℕ} {path : List (ℕ × ℕ)} where
   -- its candidate stands behind them
-  pub standing : (e : ℕ × ℕ) (walk : HasPassed h path (Some e)) → (behind : List (ℕ × ℕ))
+  pub standing : {e : ℕ × ℕ} (walk : HasPassed h path (Some e)) → (behind : List (ℕ × ℕ))
       × (path ≡ walk.front ++ e ∷ behind)
-  standing e walk =
+  standing {e} walk =
       let rest = some-rest walk.rest e walk.next in
       (rest.0, walk.split ∙ ap (λ r. walk.front ++ r) rest.1)
 
   -- it moves past a candidate with a smaller hash
-  pub moves : (s k : ℕ) (next : Option (ℕ × ℕ)) (walk : HasPassed h path (Some (s, k))) → k < h →
+  pub moves : {s k : ℕ} {next : Option (ℕ × ℕ)} (walk : HasPassed h path (Some (s, k))) → k < h →
       ((before behind : List (ℕ × ℕ)) → path ≡ before ++ (s, k) ∷ behind → next ≡ head_of behind) →
       (on : HasPassed h path next) × (on.front ≡ walk.front ++ (s, k) ∷ [])
-  moves s k next walk l after =
-      let rest = standing (s, k) walk in (
+  moves {s} {k} walk l after =
+      let rest = standing walk in (
         record {
           front = walk.front ++ (s, k) ∷ [];
           rest = rest.0;
@@ -68,10 +68,10 @@ module _ (h : ℕ) (path : List (ℕ × ℕ)) where
       )
 
   -- and then that is the last symbol before the next candidate
-  pub goes_on : (last : Option ℕ) (s k : ℕ) (next : Option (ℕ × ℕ)) → IsAt h path last (Some (s, k)) → k < h →
+  pub goes_on : {last : Option ℕ} {s k : ℕ} {next : Option (ℕ × ℕ)} → IsAt h path last (Some (s, k)) → k < h →
       ((before behind : List (ℕ × ℕ)) → path ≡ before ++ (s, k) ∷ behind → next ≡ head_of behind) →
       IsAt h path (Some s) next
-  goes_on last s k next at l after = let on = moves s k next at.walk l after in
+  goes_on {k = k} at l after = let on = moves at.walk l after in
       record { walk = on.0; last_is = (at.walk.front, k, on.1) }
 
 module _ (v : Placed) (b : ℕ) where
@@ -81,19 +81,19 @@ module _ (v : Placed) (b : ℕ) where
   distinct = chain-distinct v.count b v.hashes
 
   -- behind an entry there is less of the path than from it on
-  pub falls : (h s k : ℕ) (next : Option (ℕ × ℕ)) → HasPassed h (chain v b) (Some (s, k)) →
+  pub falls : {h s k : ℕ} {next : Option (ℕ × ℕ)} → HasPassed h (chain v b) (Some (s, k)) →
       ((before behind : List (ℕ × ℕ)) → chain v b ≡ before ++ (s, k) ∷ behind → next ≡ head_of behind) →
       length (rest_of (chain v b) next) < length (rest_of (chain v b) (Some (s, k)))
-  falls h s k next walk after =
-      let rest = standing h (chain v b) (s, k) walk in
+  falls {s = s} {k = k} {next = next} walk after =
+      let rest = standing walk in
       let now = rest_of-at (chain v b) walk.front ((s, k) ∷ rest.0) (Some (s, k)) rest.1 distinct refl in
       let then = rest_of-at (chain v b) (walk.front ++ (s, k) ∷ []) rest.0 next
       (rest.1 ∙ sym (append_assoc walk.front ((s, k) ∷ []) rest.0)) distinct (after walk.front rest.0 rest.1) in
       rw (now, then) (omega arith)
 
   -- the candidate of a walk is a placed symbol
-  pub within : (h s k : ℕ) → HasPassed h (chain v b) (Some (s, k)) → s < length v.hashes
+  pub within : {h s k : ℕ} → HasPassed h (chain v b) (Some (s, k)) → s < length v.hashes
   unfolding chain
-  within h s k walk =
-      let rest = standing h (chain v b) (s, k) walk in
-      (chain-entry _ _ _ _ _ _ rest.1).0.0
+  within walk =
+      let rest = standing walk in
+      (chain-entry v.count b v.hashes _ _ _ rest.1).0.0

@@ -26,7 +26,7 @@ returns-then-hash-head-clause-none c =
 pub symbol-requires-clause-number : goal.symbol-requires-clause-number
 symbol-requires-clause-number c =
     let all = (goal.at.symbol-requires-clause-number c).After-agrees in
-    omega (arith, second_within _ _ _ _ (read all).occupied, numbered c.self.view_is c.self.invariant)
+    omega (arith, second_within (read all).occupied, numbered c.self.view_is c.self.invariant)
 
 pub find_behind-requires : goal.find_behind-requires
 find_behind-requires c = grind (arith, common_steps, head_behind, read)
@@ -48,4 +48,4 @@ returns-clause-found c =
     let all = (goal.at.returns-clause-found c).After-agrees in
     rw c.symbol_beside-symbol.ensures
     (word_second (read all) (c.agrees.ensures.0 c.if-not-agrees.false) (inr (exact all)) _ _
-    c.if-word-head.false (two_steps _ _ _ c.step.ensures c.step-2.ensures))
+    c.if-word-head.false (two_steps _ c.step.ensures c.step-2.ensures))

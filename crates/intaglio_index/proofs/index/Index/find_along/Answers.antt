@@ -8,25 +8,25 @@ use Rattle.intaglio_index.proofs.index.Index.find_along.Goals as goal
 
 pub returns-then-hash-found-clause-none : goal.returns-then-hash-found-clause-none
 returns-then-hash-found-clause-none c =
-    λ e. absent_on _ _ (ends _ _ _ _ _ (c.loop-candidate.invariant.reached.1) (chain-in_order _ _)
+    λ e. absent_on _ _ (ends c.loop-candidate.invariant.reached.1 (chain-in_order _ _)
     (rw c.in-Some.is c.if-hash-found.true))
 
 pub returns-then-hash-found-clause-passed : goal.returns-then-hash-found-clause-passed
 returns-then-hash-found-clause-passed c =
-    λ e start from. passes _ _ _ _ _ (c.loop-candidate.invariant.since start from)
+    λ e start from. passes (c.loop-candidate.invariant.since start from)
 
 pub returns-then-hash-found-2-clause-found : goal.returns-then-hash-found-2-clause-found
 returns-then-hash-found-2-clause-found c = λ start from.
-    finds _ _ _ _ _ c.in-Some.found.1 (rw c.in-Some.is at (c.loop-candidate.invariant.since start from))
+    finds (rw c.in-Some.is at (c.loop-candidate.invariant.since start from))
     c.if-hash-found-2.true
 
 pub next_entry-candidate-requires : goal.next_entry-candidate-requires
 next_entry-candidate-requires c =
-    within _ _ _ _ c.in-Some.found.1 (rw c.in-Some.is at c.loop-candidate.invariant.reached.1).walk
+    within _ _ (rw c.in-Some.is at c.loop-candidate.invariant.reached.1).walk
 
 pub loop-candidate-smaller : goal.loop-candidate-smaller
 loop-candidate-smaller c = rw c.in-Some.is
-    (falls _ _ _ _ c.in-Some.found.1 _ (rw c.in-Some.is at c.loop-candidate.invariant.reached.1).walk
+    (falls _ _ (rw c.in-Some.is at c.loop-candidate.invariant.reached.1).walk
     (c.next_entry-candidate.ensures.next _ _))
 
 pub loop-candidate-preserved : goal.loop-candidate-preserved
@@ -35,18 +35,18 @@ loop-candidate-preserved c =
     record {
       reached = (
         c.loop-candidate.invariant.reached.0,
-        goes_on _ _ _ _ _ c.in-Some.found.1 _ _ (rw c.in-Some.is at c.loop-candidate.invariant.reached.1)
+        goes_on (rw c.in-Some.is at c.loop-candidate.invariant.reached.1)
             l c.step.ensures (c.next_entry-candidate.ensures.next _ _),
       );
-      since = λ start from. goes_on _ _ _ _ _ c.in-Some.found.1 _ _
+      since = λ start from. goes_on
           (rw c.in-Some.is at (c.loop-candidate.invariant.since start from)) l c.step.ensures
           (c.next_entry-candidate.ensures.next _ _);
     }
 
 pub returns-clause-none : goal.returns-clause-none
 returns-clause-none c =
-    λ e. absent_on _ _ (ends _ _ _ _ _ c.loop-candidate.invariant.reached.1 (chain-in_order _ _)
+    λ e. absent_on _ _ (ends c.loop-candidate.invariant.reached.1 (chain-in_order _ _)
     (rw c.in_default.is tt))
 
 pub returns-clause-passed : goal.returns-clause-passed
-returns-clause-passed c = λ e start from. passes _ _ _ _ _ (c.loop-candidate.invariant.since start from)
+returns-clause-passed c = λ e start from. passes (c.loop-candidate.invariant.since start from)

@@ -8,13 +8,13 @@ use Rattle.intaglio_index.proofs.index.Index.find_behind.Goals as goal
 use Rattle.intaglio_index.proofs.index.Index.find_behind.Goals.{After-next_entry}
 
 pub next_entry-requires : goal.next_entry-requires
-next_entry-requires c = second_placed _ _ _ c.requires.behind
+next_entry-requires c = second_placed _ _ c.requires.behind
 
 reached : (c : After-next_entry) (start : List Event) → c.args.work.now.events ≡ start ++ step ∷ [] →
     IsReached c.args.hash (chain c.args.self.now (c.args.hash % c.args.self.now.count)) start
     c.step-2.new.self.events c.next_entry.result
-reached c start begun = begins_third c.requires.behind _ _ _ (c.next_entry.ensures.next _ _)
-    (three_steps _ _ _ _ begun c.step.ensures c.step-2.ensures)
+reached c start begun = begins_third c.requires.behind (c.next_entry.ensures.next _ _)
+    (three_steps _ begun c.step.ensures c.step-2.ensures)
 
 pub find_along-requires : goal.find_along-requires
 find_along-requires c = (

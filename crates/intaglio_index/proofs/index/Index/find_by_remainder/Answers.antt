@@ -24,7 +24,7 @@ returns-then-hash-head-clause-passed c = λ e. record { more = 0; few = omega ar
 pub symbol-requires-clause-number : goal.symbol-requires-clause-number
 symbol-requires-clause-number c =
     let all = (goal.at.symbol-requires-clause-number c).After-agrees in
-    omega (arith, second_within _ _ _ _ (read all).occupied, numbered c.self.view_is c.self.invariant)
+    omega (arith, second_within (read all).occupied, numbered c.self.view_is c.self.invariant)
 
 pub find_behind-requires : goal.find_behind-requires
 find_behind-requires c = grind (arith, common_steps, head_behind, read)
@@ -45,7 +45,7 @@ reached : (c : After-first_entry) →
 reached c =
     let at : c.bucket-bucket.result ≡ c.args.hash % c.args.self.now.count = c.bucket-bucket.ensures
     ∙ ap (λ n. c.args.hash % n) (c.self.invariant.counted ∙ ap (λ (v : Placed). v.count) c.self.view_is) in
-    begins _ _ _ _ _ c.step.ensures (rw at at c.first_entry.ensures)
+    begins c.step.ensures (rw at at c.first_entry.ensures)
 
 pub find_along-requires : goal.find_along-requires
 find_along-requires c = (_, reached (goal.at.find_along-requires c).After-first_entry)
@@ -72,4 +72,4 @@ returns-clause-found c =
     let hash = hash_read c.args.self.now.hashes _ _ _ (word_within (read all))
     (rw (← c.self.view_is) c.index-2.ensures) (c.id.ensures ∙ c.symbol-symbol.ensures) ∙ c.if-index-hash.false in
     rw c.symbol-symbol.ensures (word_second (read all) (c.agrees.ensures.0 c.if-not-agrees.false)
-    (inl hash) _ _ c.if-word-head.false (two_steps _ _ _ c.step.ensures c.step-2.ensures))
+    (inl hash) _ _ c.if-word-head.false (two_steps _ c.step.ensures c.step-2.ensures))

@@ -13,9 +13,9 @@ pub symbol-requires-clause-number : goal.symbol-requires-clause-number
 symbol-requires-clause-number c =
     let o = is_occupied c.self.view_is c.self.invariant _ _ _ c.requires c.index-2.ensures c.index.ensures
     c.if-index-eq0.false in
-    omega (arith, first_within _ _ _ _ o, numbered c.self.view_is c.self.invariant)
+    omega (arith, first_within o, numbered c.self.view_is c.self.invariant)
 
 pub returns : goal.returns
 returns c = ap (λ s. Some s) c.symbol.ensures
-    ∙ sym (leads _ _ _ _ (is_occupied c.self.view_is c.self.invariant _ _ _ c.requires c.index-2.ensures
+    ∙ sym (leads (is_occupied c.self.view_is c.self.invariant _ _ _ c.requires c.index-2.ensures
     c.index.ensures c.if-index-eq0.false))

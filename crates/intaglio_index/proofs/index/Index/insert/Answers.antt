@@ -21,8 +21,8 @@ invariant_of-self c =
     0 [] c.self.inside.hashes.items ≡ [] =
     is_vacant {room = 0} refl c.self.invariant _ _ within (rw at at c.index-filter.ensures) c.if-filter-ne0.false in
     rw (c.push_reserved.ensures.items, c.push_reserved-2.ensures.items, at)
-    (holds_pushed c.self.invariant c.args.hash _ _ _ _ within (rw at at c.index-filter.ensures)
+    (holds_pushed c.self.invariant c.args.hash _ _ within (rw at at c.index-filter.ensures)
     c.marked.ensures.set c.marked.ensures.kept
-    (head_alone _ _ _ _ (c.word-word.ensures.word.0, c.word-word.ensures.word.1 ∙ number) _ empty)
+    (head_alone _ _ c.args.hash _ (c.word-word.ensures.word.0, c.word-word.ensures.word.1 ∙ number) _ empty)
     (place_first c.self.invariant.linked c.args.hash c.args.symbol number c.word-word.ensures.number free None
     (rw empty refl) (rw empty tt)))

@@ -39,9 +39,10 @@ invariant_of-self c =
     let alone = alone_is _ _ c.is_none.result leads c.is_none.ensures in
     rw (c.push_reserved.ensures.items, c.push_reserved-in-None.ensures.items)
     (rw (c.unwrap_or.ensures, at_bucket all)
-    (holds_pushed c.self.invariant c.args.hash _ _ _ _ (within all) (rw (at_bucket all) at c.index.ensures)
+    (holds_pushed c.self.invariant c.args.hash _ _ (within all) (rw (at_bucket all) at c.index.ensures)
     c.marked.ensures.set c.marked.ensures.kept
-    (c.with_first.ensures _ _ _ _ old alone begins (c.word-word.ensures.word.0, c.word-word.ensures.word.1 ∙ number_is all))
+    (c.with_first.ensures _ _ c.args.hash _ old alone begins
+    (c.word-word.ensures.word.0, c.word-word.ensures.word.1 ∙ number_is all))
     (place_first c.self.invariant.linked _ _ (number_is all) c.word-word.ensures.number (free all) _ leads begins)))
 
 pub next-requires : goal.next-requires
@@ -60,9 +61,9 @@ invariant_of-self-in-Some c =
     let old = head_read c.self.invariant _ _ (within all) (rw (at_bucket all) at c.index-head.ensures) in
     rw (c.push_reserved.ensures.items, c.push_reserved-in-Some.ensures.items)
     (rw (c.unwrap_or-link.ensures, c.id.ensures, at_bucket all)
-    (holds_pushed c.self.invariant c.args.hash _ _ _ _ (within all) (rw (at_bucket all) at c.index.ensures)
+    (holds_pushed c.self.invariant c.args.hash _ _ (within all) (rw (at_bucket all) at c.index.ensures)
     c.marked.ensures.set c.marked.ensures.kept
-    (c.with_after.ensures _ _ _ _ old leads (chain-distinct (length c.self.inside.heads.items)
+    (c.with_after.ensures _ _ c.args.hash _ old leads (chain-distinct (length c.self.inside.heads.items)
     (c.args.hash % length c.self.inside.heads.items) c.self.inside.hashes.items) pred
     (c.word-word.ensures.word.0, c.word-word.ensures.word.1 ∙ number_is all))
     (place_behind c.self.invariant.linked c.args.hash c.args.symbol (number_is all) c.word-word.ensures.number

@@ -31,13 +31,14 @@ returns-then-index-eq0 c =
     elim c.then-index-eq0.either [
       | inl none ↦ rw (is_vacant c.self.view_is c.self.invariant _ _ (within all) (rw c.requires.bucket at c.index.ensures) none) tt
       | inr p ↦
-          begins_above _ _ _ _ (some_size _) (exact all) (occupied all p.0) (rw c.high-high.ensures at p.1)
+          begins_above _ c.args.hash _ _ (some_size _) (exact all) (occupied all p.0)
+          (rw c.high-high.ensures at p.1)
     ]
 
 pub symbol-requires-clause-number : goal.symbol-requires-clause-number
 symbol-requires-clause-number c =
     let all = (goal.at.symbol-requires-clause-number c).After-index in
-    omega (arith, first_within _ _ _ _ (occupied all c.if-index-eq0.false), numbered c.self.view_is c.self.invariant)
+    omega (arith, first_within (occupied all c.if-index-eq0.false), numbered c.self.view_is c.self.invariant)
 
 pub returns-then-high-head-2 : goal.returns-then-high-head-2
 returns-then-high-head-2 c = grind (arith, common_steps, first_precedes, some_size, exact, occupied)
@@ -45,18 +46,18 @@ returns-then-high-head-2 c = grind (arith, common_steps, first_precedes, some_si
 pub symbol-second-requires-clause-number : goal.symbol-second-requires-clause-number
 symbol-second-requires-clause-number c =
     let all = (goal.at.symbol-second-requires-clause-number c).After-index in
-    omega (arith, second_within _ _ _ _ (occupied all c.if-index-eq0.false), numbered c.self.view_is c.self.invariant)
+    omega (arith, second_within (occupied all c.if-index-eq0.false), numbered c.self.view_is c.self.invariant)
 
 pub next_entry-requires : goal.next_entry-requires
 next_entry-requires c = rw c.symbol-second.ensures
-    (second_within _ _ _ _ (occupied (goal.at.next_entry-requires c).After-index c.if-index-eq0.false))
+    (second_within (occupied (goal.at.next_entry-requires c).After-index c.if-index-eq0.false))
 
 pub last_below-requires-2 : goal.last_below-requires-2
 last_below-requires-2 c =
     let all = (goal.at.last_below-requires-2 c).After-index in
     rw c.symbol-second.ensures
-    (behind_second _ _ _ _ (some_size _) (exact all) (occupied all c.if-index-eq0.false) c.next_entry.result
-    (rw c.high-high.ensures at c.if-high-head.false) (rw c.high-high.ensures at c.if-high-head-2.false)
+    (behind_second _ c.args.hash _ _ (some_size _) (exact all) (occupied all c.if-index-eq0.false)
+    c.next_entry.result (rw c.high-high.ensures at c.if-high-head.false) (rw c.high-high.ensures at c.if-high-head-2.false)
     (λ b hash before behind split. c.next_entry.ensures.next b hash before behind (split
     ∙ ap (λ s. before ++ (s, hash) ∷ behind) (sym c.symbol-second.ensures))))
 

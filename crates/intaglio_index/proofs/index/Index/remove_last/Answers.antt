@@ -67,7 +67,7 @@ pub symbol-first-requires-clause-number : goal.symbol-first-requires-clause-numb
 symbol-first-requires-clause-number c =
     omega (
       arith,
-      first_within _ _ _ _ (occupied (goal.at.symbol-first-requires-clause-number c).After-index),
+      first_within (occupied (goal.at.symbol-first-requires-clause-number c).After-index),
       numbered c.self.view_is c.self.invariant,
     )
 
@@ -84,7 +84,7 @@ led : (c : After-index) (first : ℕ) → first ≡ c.index.result.now.first % (
     Some first ≡ first_symbol_of (chain_from (length c.self.inside.heads.items)
     (c.index-hash.result.now % length c.self.inside.heads.items) 0 [] c.self.inside.hashes.items)
 unfolding chain
-led c first is = ap (λ s. Some s) is ∙ rw (← c.self.view_is) at (sym (leads _ _ _ _ (occupied c)))
+led c first is = ap (λ s. Some s) is ∙ rw (← c.self.view_is) at (sym (leads (occupied c)))
 
 pub read-requires-in-Some-clause-linked : goal.read-requires-in-Some-clause-linked
 unfolding chain

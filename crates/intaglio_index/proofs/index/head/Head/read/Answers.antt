@@ -6,7 +6,7 @@ use Rattle.intaglio_index.proofs.HeadLemmas.{thread_within, thread_next}
 use Rattle.intaglio_index.proofs.index.head.Head.read.Goals as goal
 
 pub bounds-hashes-id : goal.bounds-hashes-id
-bounds-hashes-id c = rw c.id.ensures (thread_within _ _ _ _ c.requires.linked.1)
+bounds-hashes-id c = rw c.id.ensures (thread_within _ c.requires.linked.1)
 
 pub word-first-requires-clause-below : goal.word-first-requires-clause-below
 word-first-requires-clause-below c = grind (arith, common_steps, thread_within)
@@ -16,7 +16,7 @@ next-requires c = grind (arith, common_steps, thread_within)
 
 pub bounds-hashes-id-in-Some : goal.bounds-hashes-id-in-Some
 bounds-hashes-id-in-Some c =
-    rw c.id-in-Some.ensures (thread_next _ _ _ _ _ c.requires.linked.1 (sym c.next.ensures ∙ c.in-Some.is))
+    rw c.id-in-Some.ensures (thread_next _ c.requires.linked.1 (sym c.next.ensures ∙ c.in-Some.is))
 
 pub word-second-requires-clause-below : goal.word-second-requires-clause-below
 word-second-requires-clause-below c = grind (arith, common_steps, thread_next)
