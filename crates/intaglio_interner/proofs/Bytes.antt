@@ -7,9 +7,9 @@ use Rattle.intaglio_interner.proofs.LookUps.{intern-either}
 use Rattle.intaglio_interner.specs.declared.runs.Reply.TheVariants as reply
 
 -- what holds of all holds of the next one
-pub All-next : {X : Type 0} (P : X → Type 0) (all xs rest : List X) (x : X) (ys : List X) → xs ++ rest ≡ all →
-    rest ≡ x ∷ ys → All P all → P x
-All-next P all xs rest x ys whole next holds =
+pub All-next : {X : Type 0} (P : X → Type 0) {all : List X} (xs : List X) {rest : List X} {x : X}
+    {ys : List X} → xs ++ rest ≡ all → rest ≡ x ∷ ys → All P all → P x
+All-next P {all} xs {x = x} {ys = ys} whole next holds =
     let parts : all ≡ xs ++ x ∷ ys = sym whole ∙ ap (λ t. xs ++ t) next in
     let inside : length xs < length (xs ++ x ∷ ys) = omega (arith, length-append xs (x ∷ ys)) in
     rw (get_or-append_seam xs x ys x) at ((rw parts at holds) (length xs) x inside)
@@ -32,16 +32,16 @@ module _ {C Q : Type 0} (key : C → Key) (value_key : Q → Key) (spelling : C 
       grind (arith, common_steps, intern-either key value_key spelling adds copies old next q r step)
 
   -- one more of them
-  pub StillRoom-next : (needs : Q → ℕ) (in_store : Type 0) (left : List Q) (mid next : State C)
-      (bytes bytes' : ℕ) (call : Call Q) (rest : List (Call Q)) (replies : List Reply) (r : Reply)
+  pub StillRoom-next : (needs : Q → ℕ) (in_store : Type 0) (left : List Q) (mid next : State C) (r : Reply)
+      (bytes bytes' : ℕ) {call : Call Q} {rest : List (Call Q)} (replies : List Reply)
       → call ∷ rest ≡ map Intern left → length left ≤ mid.spare → in_store → sum_by needs left ≤ bytes →
       All (λ r. r ≢ reply.NoMemory) replies → UsesRoom needs in_store mid bytes call r bytes'
       → Step key value_key spelling adds copies mid call r next →
       All (λ r. r ≢ reply.NoMemory) (replies ++ r ∷ []) × ((left : List Q) × (rest ≡ map Intern left)
       × (length left ≤ next.spare) × (sum_by needs left ≤ bytes'))
-  StillRoom-next needs in_store [] mid next bytes bytes' call rest replies r e few there enough all uses step = cc
-  StillRoom-next needs in_store (q ∷ left) mid next bytes bytes' call rest replies r e few there enough all
-      uses step =
+  StillRoom-next needs in_store [] mid next r bytes bytes' replies e few there enough all uses step = cc
+  StillRoom-next needs in_store (q ∷ left) mid next r bytes bytes' {call} replies e few there enough all uses
+      step =
       let is : call ≡ Intern q = cc in
       let used = rw is at uses in
       let less = intern-spare mid next q r (rw is at step) (omega arith) in

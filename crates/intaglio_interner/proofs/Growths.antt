@@ -1,5 +1,5 @@
 -- How often the memory of a table's contents grows.
-use Rattle.intaglio_interner.proofs.Names.{common_steps, ◌≡◌, ◌≢◌, ℕ, suc, ◌+◌, ◌*◌, ◌^◌, ◌≤◌, max, Bool, List, [], ◌∷◌, ◌++◌, length, All, inl, inr, refl, arith, cases_eq, ne_eqb, Key, IsAddedOne, State, Step, KeepsContents, KeepsRoom, Room, changes, bytes_of, CallGrows, RunsGrowing, Call, Intern, ShrinkToFit, Reply}
+use Rattle.intaglio_interner.proofs.Names.{common_steps, ◌≡◌, ◌≢◌, ℕ, suc, ◌+◌, ◌*◌, ◌^◌, ◌≤◌, max, Bool, List, [], ◌∷◌, ◌++◌, length, All, inl, inr, refl, arith, cases_eq, ne_eqb, Key, IsAddedOne, State, Step, KeepsContents, KeepsRoom, Room, changes, bytes_of, CallGrows, RunsGrowing, GrowsSeldom, Call, Intern, ShrinkToFit, Reply}
 use Rattle.std.proofs.Math.Nat.{mul-le-mul_left, mul_assoc, pow-suc}
 use Rattle.intaglio_interner.proofs.Room.{added-length}
 use Rattle.intaglio_interner.proofs.LookUps.{look_up-same, intern-either}
@@ -38,7 +38,7 @@ module _ {C Q : Type 0} (takes : C → ℕ) (needs : Q → ℕ) where
 
   module _ (IsStep : State C → Call Q → Reply → State C → Type 0) where
     -- the room for contents, and that for bytes, doubled as often as it changed
-    pub all-growths : (old : Room C) (calls : List (Call Q)) (replies : List Reply) (g h : ℕ) (new : Room C) →
+    all-growths : (old : Room C) (calls : List (Call Q)) (replies : List Reply) (g h : ℕ) (new : Room C) →
         All KeepsRoom calls → RunsGrowing takes needs IsStep old calls replies g h new
         → (2 ^ g * max 1 old.most ≤ max 1 new.most)
         × (2 ^ h * max 1 (bytes_of takes old) ≤ max 1 (bytes_of takes new))
@@ -50,30 +50,25 @@ module _ {C Q : Type 0} (takes : C → ℕ) (needs : Q → ℕ) where
     all-growths old _ _ g h new keep run = grind (arith, common_steps)
 
     -- one call more
-    pub growing-push : (old : Room C) (calls : List (Call Q)) (replies : List Reply) (g h : ℕ) (mid : Room C)
-        (call : Call Q) (r : Reply) (new : Room C)
-        → RunsGrowing takes needs IsStep old calls replies g h mid → IsStep mid.state call r new.state →
-        CallGrows takes needs mid call new
-        → RunsGrowing takes needs IsStep old (calls ++ call ∷ []) (replies ++ r ∷ [])
-        (g + changes mid.most new.most) (h + changes (bytes_of takes mid) (bytes_of takes new)) new
-    growing-push old [] [] g h mid call r new run step grows = rw (run.0, run.1, run.2)
-        (new, 0, 0, omega arith, omega arith, rw (← run.2) step, rw (← run.2) grows, (refl, refl, refl))
-    growing-push old (x ∷ calls) (y ∷ replies) g h mid call r new run step grows = (
-      run.0,
-      run.1 + changes mid.most new.most,
-      run.2 + changes (bytes_of takes mid) (bytes_of takes new),
-      rw run.3 (omega arith),
-      rw run.4 (omega arith),
-      run.5,
-      run.6,
-      growing-push run.0 calls replies run.1 run.2 mid call r new run.7 step grows,
+    pub growing-push : (replies : List Reply) (old : Room C) (calls : List (Call Q)) (mid : Room C)
+        {call : Call Q} (r : Reply) (new : Room C)
+        → (g h : ℕ) × RunsGrowing takes needs IsStep old calls replies g h mid →
+        IsStep mid.state call r new.state → CallGrows takes needs mid call new
+        → (g h : ℕ) × RunsGrowing takes needs IsStep old (calls ++ call ∷ []) (replies ++ r ∷ []) g h new
+    growing-push [] old [] mid r new (g, h, run) step grows = (
+      changes old.most new.most,
+      changes (bytes_of takes old) (bytes_of takes new),
+      (new, 0, 0, omega arith, omega arith, rw (← run.2) step, rw (← run.2) grows, (refl, refl, refl)),
     )
-    growing-push old _ _ g h mid call r new run step grows = absurd run
+    growing-push (y ∷ replies) old (x ∷ calls) mid r new (g, h, run) step grows =
+        let rest = growing-push replies run.0 calls mid r new (run.1, run.2, run.7) step grows in
+        (_, _, (run.0, rest.0, rest.1, refl, refl, run.5, run.6, rest.2))
+    growing-push _ old _ mid r new run step grows = absurd run.2
 
     module _ (sizes : (old next : State C) (call : Call Q) (r : Reply) → KeepsContents call →
         IsStep old call r next → length old.contents ≤ length next.contents) where
       -- there is room for few more contents than there are, which aren't fewer than before
-      pub few-growths : (old : Room C) (calls : List (Call Q)) (replies : List Reply) (g h : ℕ)
+      few-growths : (old : Room C) (calls : List (Call Q)) (replies : List Reply) (g h : ℕ)
           (new : Room C) → All KeepsContents calls → RunsGrowing takes needs IsStep old calls replies g h new
           → (length old.state.contents ≤ length new.state.contents)
           × (new.most ≤ max old.most (max 4 (2 * length new.state.contents)))
@@ -85,9 +80,22 @@ module _ {C Q : Type 0} (takes : C → ℕ) (needs : Q → ℕ) where
           (omega (arith, size, rest.0), grind (arith, common_steps))
       few-growths old _ _ g h new keep run = grind (arith, common_steps)
 
+      -- so both grow seldom
+      pub grows-seldom : {old : Room C} {calls : List (Call Q)} {replies : List Reply} {new : Room C} →
+          (g h : ℕ) × RunsGrowing takes needs IsStep old calls replies g h new →
+          GrowsSeldom takes needs IsStep old calls replies new
+      grows-seldom {old} {calls} {replies} {new} run = record {
+        g = run.0;
+        h = run.1;
+        growths = run.2;
+        list = λ keep. (all-growths old calls replies run.0 run.1 new keep run.2).0;
+        few = λ keep. (few-growths old calls replies run.0 run.1 new keep run.2).1;
+        bytes = λ keep. (all-growths old calls replies run.0 run.1 new keep run.2).1;
+      }
+
 -- internings and look-ups drop no content
-module _ {C Q : Type 0} (key : C → Key) (value_key : Q → Key) (spelling : C → List ℕ) (adds : Q → List C →
-    List C → Type 0) (copies : Bool) (one : (q : Q) (a b : List C) → adds q a b →
+module _ {C Q : Type 0} {key : C → Key} {value_key : Q → Key} (spelling : C → List ℕ) {adds : Q → List C →
+    List C → Type 0} (copies : Bool) (one : (q : Q) (a b : List C) → adds q a b →
     IsAddedOne key (value_key q) a b) where
   pub call-size : (old next : State C) (call : Call Q) (r : Reply) → KeepsContents call →
       Step key value_key spelling adds copies old call r next → length old.contents ≤ length next.contents
@@ -96,7 +104,7 @@ module _ {C Q : Type 0} (key : C → Key) (value_key : Q → Key) (spelling : C 
         arith,
         common_steps,
         intern-either key value_key spelling adds copies old next q r made,
-        added-length key (adds q) copies (value_key q) (one q) old next,
+        added-length copies (one q) old next,
       )
   call-size old next call r keep made =
       rw (look_up-same key value_key spelling adds copies old next call r keep made) (omega arith)

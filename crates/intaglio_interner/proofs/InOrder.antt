@@ -25,12 +25,12 @@ module _ {S X Y : Type 0} (OneStep : S → X → Y → List Event → S → Type
   InOrder-push old _ _ cost mid x y now new run one = absurd run
 
   -- the events of some steps, and those of one step more
-  pub Adds-push : (old : S) (xs : List X) (ys : List Y) (mid : S) (x : X) (y : Y) (new : S)
-      (before between after : List Event)
+  pub Adds-push : (old : S) (xs : List X) (ys : List Y) {mid : S} {x : X} {y : Y} {new : S}
+      (before : List Event) {between after : List Event}
       → Adds before between (λ cost. InOrder OneStep old xs ys cost mid) →
       Adds between after (λ now. OneStep mid x y now new)
       → Adds before after (λ cost. InOrder OneStep old (xs ++ x ∷ []) (ys ++ y ∷ []) cost new)
-  Adds-push old xs ys mid x y new before between after run one = (
+  Adds-push old xs ys {mid} {x} {y} {new} before run one = (
     run.0 ++ one.0,
     rw (one.1, run.1, append_assoc) refl,
     InOrder-push old xs ys run.0 mid x y one.0 new run.2 one.2,

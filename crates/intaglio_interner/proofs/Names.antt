@@ -6,7 +6,7 @@ pub use Rattle.intaglio_interner.specs.Batch.{AreHashed, FailsEach, IfOverflow, 
 pub use Rattle.intaglio_interner.specs.Bytes.{GrowsBytes, GrowsFor}
 pub use Rattle.intaglio_interner.specs.Change.{AddsNew, HasNoLessRoom, InternsValue, IsAdded, IsAppended, IsOutOfMemory, IsRefused}
 pub use Rattle.intaglio_interner.specs.Cost.{Adds, InOrder, IsAddingCost, SearchCost, hashed_keys, placed_count}
-pub use Rattle.intaglio_interner.specs.Growths.{CallGrows, Room, RunsGrowing, bytes_of, changes, room}
+pub use Rattle.intaglio_interner.specs.Growths.{CallGrows, GrowsSeldom, Room, RunsGrowing, bytes_of, changes, room}
 pub use Rattle.intaglio_interner.specs.Issue.{interned, interned_all, issue, issue_from, issued}
 pub use Rattle.intaglio_interner.specs.Lookup.{FindsEach, FindsEachKey, FindsInterned, IsFound, IsStored, Keeps, KeepsBelow, StoresEachKey}
 pub use Rattle.intaglio_interner.specs.Run.{HoldsBytes, HonoursRoom, IsRefusal, KeepsContents, KeepsRoom, Runs, RunsValues, UsesRoom, searched_keys}

@@ -4,7 +4,7 @@ use Rattle.intaglio_interner.proofs.Names.{◌≡◌, ◌∙◌, [], arith, appe
 use Rattle.intaglio_interner.proofs.Growth.{Runs-hash, places, Runs-room, Runs-issue, Runs-roomier}
 use Rattle.intaglio_interner.proofs.Bytes.{All-next, StillRoom-next}
 use Rattle.intaglio_interner.proofs.InOrder.{Adds-push}
-use Rattle.intaglio_interner.proofs.Growths.{growing-push, all-growths, call-size, few-growths}
+use Rattle.intaglio_interner.proofs.Growths.{growing-push, call-size, grows-seldom}
 use Rattle.intaglio_interner.proofs.runs.run.Goals as goal
 
 pub loop-call-init : goal.loop-call-init
@@ -30,13 +30,12 @@ loop-call-preserved g c = record {
   can = tt;
   finite = tt;
   ran = rw c.push_reserved.ensures.items
-      (Adds-push _ _ _ _ _ _ _ _ _ _ _ c.loop-call.invariant.ran (let spent =
+      (Adds-push _ _ _ c.loop-call.replies.items _ c.loop-call.invariant.ran (let spent =
       rw c.loop-call.invariant.same_hash at c.step.ensures.cost in
       (spent.0, spent.1, (c.step.ensures.step, spent.2, c.step.ensures.valid))));
-  growths =
-      let pushed = growing-push _ _ _ _ _ _ _ _ _ _ c.step.result _ c.loop-call.invariant.growths.2
-      c.step.ensures.step c.step.ensures.grows in
-      (_, _, rw (← c.push_reserved.ensures.items) at pushed);
+  growths = rw c.push_reserved.ensures.items
+      (growing-push _ _ _ c.loop-call.replies.items _ _ _ c.step.result _ c.loop-call.invariant.growths
+      c.step.ensures.step c.step.ensures.grows);
   same_hash = c.step.ensures.same_hash ∙ c.loop-call.invariant.same_hash;
   whole = rw (append_assoc, ← c.in-Some.ensures.steps.0) c.loop-call.invariant.whole;
   room = omega (arith, c.in-Some.ensures.steps);
@@ -44,12 +43,12 @@ loop-call-preserved g c = record {
     arith,
     c.loop-call.invariant.bytes keep,
     c.step.ensures.bytes
-        (All-next KeepsRoom _ _ _ _ _ c.loop-call.invariant.whole c.in-Some.ensures.steps.0 keep),
+        (All-next KeepsRoom _ c.loop-call.invariant.whole c.in-Some.ensures.steps.0 keep),
   );
   still = rw c.push_reserved.ensures.items (λ qs is few there enough.
       let so_far = c.loop-call.invariant.still qs is few there enough in
       StillRoom-next g.T.Content.Keyed.key g.Q.Keyed.key g.T.Content.Content.spelling g.Q.AddedTo.adds
-      g.Q.AddedTo.copies _ _ so_far.1.0 _ _ _ _ _ _ _ c.step.result
+      g.Q.AddedTo.copies _ _ so_far.1.0 _ _ c.step.result _ _ _
       (sym c.in-Some.ensures.steps.0 ∙ so_far.1.1) so_far.1.2 there so_far.1.3 so_far.0 c.step.ensures.room
       c.step.ensures.step);
 }
@@ -57,37 +56,28 @@ loop-call-preserved g c = record {
 pub returns : goal.returns
 returns g c =
     let one = g.met.Q.AddedTo.adds_one in
-    let so_far = c.loop-call.invariant.growths in
     let all : c.loop-call.yielded ≡ c.args.calls.items = grind (arith, common_steps) in
     let ran = rw all at c.loop-call.invariant.ran in
-    let run = rw all at so_far.2 in
     record {
       ok = ran;
       issues = λ cs empty interns none.
-          Runs-issue _ _ _ _ _ one _ _ _ cs _ _ empty (rw interns at ran.2) none;
-      hashes = (ran.0, ran.1, Runs-hash _ _ _ _ _ one _ _ _ _ _ _ ran.2);
+          Runs-issue _ _ one _ _ _ ran.0 cs _ empty (rw interns at ran.2) none;
+      hashes = (ran.0, ran.1, Runs-hash _ _ one _ _ _ ran.0 _ _ ran.2);
       growth = (
         ran.0,
         ran.1,
         λ keep. omega (
           arith,
-          places _ _ _ _ _ one _ _ _ _ _ _ 0 keep
+          places _ _ one _ _ _ ran.0 _ _ 0 keep
               (record { below = λ lt. omega arith; twice = omega arith }) ran.2,
         ),
       );
-      capacity = λ keep. Runs-roomier _ _ _ _ _ one _ _ _ _ _ _ keep ran.2;
-      room = Runs-room _ _ _ _ _ _ _ _ _ _ _ ran.2;
+      capacity = λ keep. Runs-roomier _ _ one _ _ _ ran.0 _ _ keep ran.2;
+      room = Runs-room _ _ _ g.Q.AddedTo.adds _ g.Q.AddedTo.copies _ _ ran.0 _ _ ran.2;
       same_hash = c.loop-call.invariant.same_hash;
       bytes = c.loop-call.invariant.bytes;
       byte_room = λ qs interns few there enough. (c.loop-call.invariant.still qs interns few there enough).0;
-      growths = record {
-        g = so_far.0;
-        h = so_far.1;
-        growths = run;
-        list = λ keep. (all-growths _ _ _ _ _ _ _ _ _ keep run).0;
-        few = λ keep. (few-growths _ _ _ (call-size _ _ _ _ _ one) _ _ _ _ _ _ keep run).1;
-        bytes = λ keep. (all-growths _ _ _ _ _ _ _ _ _ keep run).1;
-      };
+      growths = grows-seldom _ _ _ (call-size _ _ one) (rw all at c.loop-call.invariant.growths);
       err = tt;
       same_bytes = tt;
       no_cost = tt;
