@@ -58,5 +58,5 @@ front-then (Some x) (Some y) None block later bytes more put front next = absurd
 front-then (Some x) (Some y) (Some z) block later bytes more put front next =
     let part = take front.0 (block ++ bytes) in (
       length part + next.0,
-      grind (arith, common_steps, append_cancel_left, append_assoc, take-append-add part (later ++ more) next.0, put, front.1, next.1),
+      grind (arith, append_cancel_left, append_assoc, take-append-add part (later ++ more) next.0, put, front.1, next.1),
     )

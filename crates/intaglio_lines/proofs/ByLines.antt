@@ -42,11 +42,11 @@ no-ten line is = λ k d lt. ne_eqb _ 10 (is k d lt)
 
 -- the lines of a line, a byte 10 and a rest are that line and the lines of the rest
 pub lines_of-more : (line rest : List ℕ) → IsLine line → lines_of (line ++ 10 ∷ rest) ≡ line ∷ lines_of rest
-lines_of-more line rest is = grind (arith, common_steps, eqb, slice_split_at, no-ten, without_empty_last-cons, length-slice_split)
+lines_of-more line rest is = grind (arith, eqb, slice_split_at, no-ten, without_empty_last-cons, length-slice_split)
 
 -- the lines of a line that isn't empty are that line alone
 pub lines_of-last : (line : List ℕ) → 0 < length line → IsLine line → lines_of line ≡ line ∷ []
-lines_of-last line some is = grind (arith, common_steps, slice_split_none, eqb, no-ten, without_empty_last-one)
+lines_of-last line some is = grind (arith, slice_split_none, eqb, no-ten, without_empty_last-one)
 
 -- no line holds a byte 10
 pub lines_of-are-lines : (bytes : List ℕ) → AllByRecursion IsLine (lines_of bytes)
@@ -93,12 +93,12 @@ flat_map-lines_of =
 pub lines_of-flat_map : (lines : List (List ℕ)) → AllByRecursion IsLine lines →
     lines_of (flat_map spelling_line lines) ≡ lines
 lines_of-flat_map [] all = refl
-lines_of-flat_map (line ∷ lines) all = grind (arith, common_steps, append_assoc line (10 ∷ []) (flat_map spelling_line lines), lines_of-more line (flat_map spelling_line lines) all.0, lines_of-flat_map lines all.1)
+lines_of-flat_map (line ∷ lines) all = grind (arith, append_assoc line (10 ∷ []) (flat_map spelling_line lines), lines_of-more line (flat_map spelling_line lines) all.0, lines_of-flat_map lines all.1)
 
 -- lines with a byte 10 behind each are bytes that are ended
 pub is_ended-flat_map : (lines : List (List ℕ)) → is_ended (flat_map spelling_line lines) ≡ true
 is_ended-flat_map [] = refl
-is_ended-flat_map (line ∷ lines) = grind (arith, common_steps, append_assoc line (10 ∷ []) (flat_map spelling_line lines), is_ended-more line (flat_map spelling_line lines), is_ended-flat_map lines)
+is_ended-flat_map (line ∷ lines) = grind (arith, append_assoc line (10 ∷ []) (flat_map spelling_line lines), is_ended-more line (flat_map spelling_line lines), is_ended-flat_map lines)
 
 -- ended bytes with ended bytes behind them are ended
 pub ended-append : (front rest : List ℕ) → is_ended front ≡ true → is_ended rest ≡ true →
@@ -112,8 +112,8 @@ pub lines_of-append : (front rest : List ℕ) → is_ended front ≡ true →
 lines_of-append front rest =
     by-lines (λ front. is_ended front ≡ true → lines_of (front ++ rest) ≡ lines_of front ++ lines_of rest)
     (λ ended. refl)
-    (λ line some is ended. grind (arith, common_steps, is_ended-line line some is))
-    (λ line more is same ended. grind (arith, common_steps, append_assoc line (10 ∷ more) rest, lines_of-more line (more ++ rest) is, lines_of-more line more is, same, is_ended-more line more))
+    (λ line some is ended. grind (arith, is_ended-line line some is))
+    (λ line more is same ended. grind (arith, append_assoc line (10 ∷ more) rest, lines_of-more line (more ++ rest) is, lines_of-more line more is, same, is_ended-more line more))
     front
 
 -- a text that is cut behind a byte 10 gives two texts
@@ -122,7 +122,7 @@ pub texts : (front rest : List ℕ) → is_ended front ≡ true → IsUtf8 (fron
 texts front rest =
     by-lines (λ front. is_ended front ≡ true → IsUtf8 (front ++ rest) → IsUtf8 front × IsUtf8 rest)
     (λ ended text. (IsUtf8-nil, text))
-    (λ line some is ended. grind (arith, common_steps, is_ended-line line some is))
+    (λ line some is ended. grind (arith, is_ended-line line some is))
     (λ line more is parts ended text.
     let cut = IsUtf8-parts line (more ++ rest) (rw (append_assoc line (10 ∷ more) rest) at text) in
     let both = parts (sym (is_ended-more line more) ∙ ended) cut.1 in

@@ -16,26 +16,26 @@ without_empty_last-one (b ∷ bs) h = search rules
 -- what `position` says, by the first place that passes
 pub position-Some : (p : ℕ → Bool) (bs : List ℕ) (end : ℕ) → position p bs ≡ Some end →
     (position_or_len p bs ≡ end) × (position_or_len p bs < length bs)
-position-Some p bs end is = grind (arith, common_steps)
+position-Some p bs end is = grind arith
 
 -- if `position` gives no place, `position_or_len` gives the number of bytes
 pub position-None : (p : ℕ → Bool) (bs : List ℕ) → position p bs ≡ None → position_or_len p bs ≡ length bs
-position-None p bs is = grind (arith, common_steps, prefix_len-le-length)
+position-None p bs is = grind (arith, prefix_len-le-length)
 
 -- where there is a byte 10, the first line ends at the first
 pub lines-cut-at : (bs : List ℕ) (end : ℕ) → position (λ b. eqb b 10) bs ≡ Some end
     → lines_of bs ≡ take end bs ∷ lines_of (take (length bs - (end + 1)) (drop (end + 1) bs))
-lines-cut-at bs end is = grind (arith, common_steps, eqb, position-Some (λ b. eqb b 10) bs end is, take_rest, length-slice_split, slice_split_first, without_empty_last-cons)
+lines-cut-at bs end is = grind (arith, eqb, position-Some (λ b. eqb b 10) bs end is, take_rest, length-slice_split, slice_split_first, without_empty_last-cons)
 
 -- bytes without a byte 10, of which there is one at least, are one line
 pub lines-cut-nowhere : (bs : List ℕ) → position (λ b. eqb b 10) bs ≡ None → 0 < length bs →
     lines_of bs ≡ bs ∷ []
-lines-cut-nowhere bs is some = grind (arith, common_steps, eqb, position-None (λ b. eqb b 10) bs is, fails_before_first, slice_split_none, without_empty_last-one)
+lines-cut-nowhere bs is some = grind (arith, eqb, position-None (λ b. eqb b 10) bs is, fails_before_first, slice_split_none, without_empty_last-one)
 
 -- the first line, its byte 10 and the rest are all of the bytes
 pub whole-cut-at : (bs : List ℕ) (end : ℕ) → position (λ b. eqb b 10) bs ≡ Some end
     → bs ≡ take end bs ++ 10 ∷ take (length bs - (end + 1)) (drop (end + 1) bs)
-whole-cut-at bs end is = grind (arith, common_steps, eqb, position-Some (λ b. eqb b 10) bs end is, passes_at_first (λ b. eqb b 10) bs 0, split_at_first (λ b. eqb b 10) bs 0, take_rest bs (end + 1), eqb-true)
+whole-cut-at bs end is = grind (arith, eqb, position-Some (λ b. eqb b 10) bs end is, passes_at_first (λ b. eqb b 10) bs 0, split_at_first (λ b. eqb b 10) bs 0, take_rest bs (end + 1), eqb-true)
 
 -- the cuts at the first byte 10
 pub ruleset cuts = (lines-cut-at, lines-cut-nowhere, whole-cut-at)

@@ -29,7 +29,7 @@ digits-from-number (d ∷ e ∷ more) is = grind (arith, common_steps, and_parts
 
 -- a number below 2 ^ 64 begins with 0 in decimal only if that is its only digit
 decimal-first : (n : ℕ) → n < 2 ^ 64 → get_or (decimal n) 0 0 ≡ 48 → length (decimal n) ≡ 1
-decimal-first n small zero = grind (arith, common_steps, cases_eq, decimal_digit, first_decimal)
+decimal-first n small zero = grind (arith, cases_eq, decimal_digit, first_decimal)
 
 -- a number below 2 ^ 64 in decimal is a line that is a number
 pub is_number-decimal : (n : ℕ) → n < 2 ^ 64 → is_number (decimal n) ≡ true

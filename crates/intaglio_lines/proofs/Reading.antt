@@ -13,7 +13,7 @@ output_lines symbols spellings = map decimal symbols ++ [] ∷ spellings
 -- an output is its lines, with a byte 10 behind each
 output-lines : (symbols : List ℕ) (spellings : List (List ℕ)) →
     output_of symbols spellings ≡ flat_map spelling_line (output_lines symbols spellings)
-output-lines symbols spellings = grind (arith, common_steps, flat_map-map spelling_line decimal symbols, flat_map-append spelling_line (map decimal symbols) ([] ∷ spellings))
+output-lines symbols spellings = grind (arith, flat_map-map spelling_line decimal symbols, flat_map-append spelling_line (map decimal symbols) ([] ∷ spellings))
 
 -- numbers that fit 64 bits
 abbrev AreSmall : List ℕ → Type 0
@@ -53,12 +53,12 @@ first-blank (line ∷ front) back written = rw (written.0, first-blank front bac
 -- behind it are those after the first empty one, which there is
 blank : (front back : List (List ℕ)) → AreWritten front → (before_first is_blank (front ++ [] ∷ back) ≡ front)
     × (after_first is_blank (front ++ [] ∷ back) ≡ back) × (list_any is_blank (front ++ [] ∷ back) ≡ true)
-blank front back written = grind (arith, common_steps, take_at, first-blank front back written, drop-append-add front ([] ∷ back) 1, list_any-append is_blank front ([] ∷ back))
+blank front back written = grind (arith, take_at, first-blank front back written, drop-append-add front ([] ∷ back) 1, list_any-append is_blank front ([] ∷ back))
 
 -- an output has at least as many bytes as spellings
 length-output : (symbols : List ℕ) (spellings : List (List ℕ)) →
     length spellings ≤ length (output_of symbols spellings)
-length-output symbols spellings = grind (arith, common_steps, length-append, length-le-flat_map)
+length-output symbols spellings = grind (arith, length-append, length-le-flat_map)
 
 -- bytes that hold symbols of 64 bits and spellings, and what is read of them
 pub record Reads (symbols : List ℕ) (spellings : List (List ℕ)) (bytes : List ℕ) : Type 0 where
@@ -82,7 +82,7 @@ reads : (symbols : List ℕ) (spellings : List (List ℕ)) (bytes : List ℕ) �
 reads symbols spellings bytes few holds =
     let small : AreSmall symbols = recursion_from_All (λ n. n < 2 ^ 64) symbols (λ i d lt.
     omega (arith, holds.known i d lt, length-output symbols spellings, ap length holds.whole)) in
-    grind (arith, common_steps, recursion_from_All, output-lines, lines_of-output, blank (map decimal symbols) spellings (written-decimal symbols small), numbers-decimal symbols small)
+    grind (arith, recursion_from_All, output-lines, lines_of-output, blank (map decimal symbols) spellings (written-decimal symbols small), numbers-decimal symbols small)
 
 -- bytes are read in one way
 pub one-reading : (bytes symbols others : List ℕ) (spellings strings : List (List ℕ)) → length bytes < 2 ^ 64
@@ -90,32 +90,32 @@ pub one-reading : (bytes symbols others : List ℕ) (spellings strings : List (L
 one-reading bytes symbols others spellings strings few left right =
     let a = reads symbols spellings bytes few left in
     let b = reads others strings bytes few right in
-    grind (arith, common_steps, a.symbols_read, b.symbols_read, a.strings, b.strings)
+    grind (arith, a.symbols_read, b.symbols_read, a.strings, b.strings)
 
 -- and decoded in one way
 pub one-output : (bytes output other : List ℕ) → length bytes < 2 ^ 64 → Decodes bytes output →
     Decodes bytes other → output ≡ other
-one-output bytes output other few left right = grind (arith, common_steps, one-reading)
+one-output bytes output other few left right = grind (arith, one-reading)
 
 -- the decimals of symbols that are below the count, and fit 64 bits, have no fault
 first-right : (count number : ℕ) (symbols : List ℕ) → AreSmall symbols →
     AllByRecursion (λ symbol. symbol < count) symbols
     → first_fault (Some count) number (map decimal symbols) ≡ None
 first-right count number [] small known = refl
-first-right count number (n ∷ symbols) small known = grind (arith, common_steps, is_number-decimal n small.0, number-decimal n small.0, lt-ltb n count known.0, first-right count (number + 1) symbols small.1 known.1)
+first-right count number (n ∷ symbols) small known = grind (arith, is_number-decimal n small.0, number-decimal n small.0, lt-ltb n count known.0, first-right count (number + 1) symbols small.1 known.1)
 
 -- what holds symbols and spellings has no fault
 pub no-fault : (bytes symbols : List ℕ) (spellings : List (List ℕ)) → length bytes < 2 ^ 64 →
     Holds symbols spellings bytes → fault_of bytes ≡ None
 no-fault bytes symbols spellings few holds =
     let read = reads symbols spellings bytes few holds in
-    grind (arith, common_steps, read.any, read.front, read.whole, is_ended-flat_map (output_lines symbols spellings), read.strings, first-right (length spellings) 1 symbols read.small read.known)
+    grind (arith, read.any, read.front, read.whole, is_ended-flat_map (output_lines symbols spellings), read.strings, first-right (length spellings) 1 symbols read.small read.known)
 
 -- if lines have no fault under a count, each is a number below the count
 pub known-lines : (count number : ℕ) (lines : List (List ℕ)) → first_fault (Some count) number lines ≡ None →
     AreKnown count lines
 known-lines count number [] none = tt
-known-lines count number (line ∷ lines) none = grind (arith, common_steps, known-lines count (number + 1) lines, ltb-true (digits_value 10 line) count)
+known-lines count number (line ∷ lines) none = grind (arith, known-lines count (number + 1) lines, ltb-true (digits_value 10 line) count)
 
 -- lines that are numbers below a count are these numbers in decimal, if the count fits 64 bits, and these are
 -- below it
@@ -131,17 +131,17 @@ known-decimals count (line ∷ lines) few known =
 any-place : (lines : List (List ℕ)) → list_any is_blank lines ≡ true →
     position_or_len is_blank lines < length lines
 any-place [] any = cc
-any-place (line ∷ lines) any = grind (arith, common_steps, any-place lines)
+any-place (line ∷ lines) any = grind (arith, any-place lines)
 
 -- lines of which one is empty
 pub at-blank : (lines : List (List ℕ)) → list_any is_blank lines ≡ true →
     lines ≡ before_first is_blank lines ++ [] ∷ after_first is_blank lines
-at-blank lines any = grind (arith, common_steps, any-place lines any, passes_at_first is_blank lines [], split_at_first is_blank lines [], nil_from_length, eqb-true)
+at-blank lines any = grind (arith, any-place lines any, passes_at_first is_blank lines [], split_at_first is_blank lines [], nil_from_length, eqb-true)
 
 -- what has no fault has none in its symbols, an empty line, and an ended last line
 fault-none : (bytes : List ℕ) → fault_of bytes ≡ None → (first_fault (spelling_count bytes) 1 (symbol_lines bytes) ≡ None)
     × (list_any is_blank (lines_of bytes) ≡ true) × (is_ended bytes ≡ true)
-fault-none bytes none = grind (arith, common_steps)
+fault-none bytes none = grind arith
 
 -- what has no fault holds the numbers of its lines, and its strings
 pub holds-read : (bytes : List ℕ) → length bytes < 2 ^ 64 → fault_of bytes ≡ None →

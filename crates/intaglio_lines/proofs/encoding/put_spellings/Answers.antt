@@ -11,7 +11,7 @@ use Rattle.intaglio_lines.proofs.encoding.put_spellings.Goals as goal
 lines-next : {C : Type 0} (spelling : C → List ℕ) (cs : List C) (n : ℕ) (c : C) → slice_get cs n ≡ Some c →
     flat_map spelling_line (map spelling (take (n + 1) cs))
     ≡ flat_map spelling_line (map spelling (take n cs)) ++ spelling_line (spelling c)
-lines-next spelling cs n c at = grind (arith, common_steps, at, slice_get_within cs n c at, get_or_from_slice_get cs n c c at, take_more cs n c, map-append spelling (take n cs) (c ∷ []), flat_map-append spelling_line (map spelling (take n cs)) (spelling c ∷ []), append-nil, add-one)
+lines-next spelling cs n c at = grind (arith, at, slice_get_within cs n c at, get_or_from_slice_get cs n c c at, take_more cs n c, map-append spelling (take n cs) (c ∷ []), flat_map-append spelling_line (map spelling (take n cs)) (spelling c ∷ []), append-nil, add-one)
 
 pub loop-place-preserved : goal.loop-place-preserved
 loop-place-preserved g c =

@@ -9,11 +9,11 @@ first-byte : (p : ℕ → Bool) (xs : List ℕ) (r : Option ℕ) → IsFirstByte
 first-byte p xs None nowhere =
     let at = position_or_len_is p xs (length xs) 0 (omega arith)
     (λ k l. false_from_ne_true (p (get_or xs k 0)) (nowhere k (omega arith) l)) (λ l. absurd (omega arith)) in
-    grind (arith, common_steps, at)
+    grind (arith, at)
 first-byte p xs (Some k) first =
     let at = position_or_len_is p xs k 0 (omega (arith, first.0.high))
     (λ j l. false_from_ne_true (p (get_or xs j 0)) (first.0.before j (omega arith) l)) (λ _. first.1) in
-    grind (arith, common_steps, at, first.0.high)
+    grind (arith, at, first.0.high)
 
 pub returns-clause-place : goal.returns-clause-place
 returns-clause-place c = first-byte (λ b. b == 10) c.args.input.now c.memchr.result c.memchr.ensures
