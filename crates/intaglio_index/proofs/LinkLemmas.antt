@@ -231,11 +231,8 @@ module _ {count : ℕ} {hashes : List ℕ} {links : List Symbol} (linked : IsLin
         placed_linked all (length-set more p symbol ∙ size)
         (λ b n. Each-so _ _ _ (in_no_other count b k hashes p pred.hash entry n) same)
         (rw (put-behind symbol hash (bucket k) p pred, leader_same pred.front (p, pred.hash) _ pred.behind)
-        (path_spliced (next_of links) _ _ pred.front _ pred.behind _ (Each-so _ _ _ others.0 same) (
-          at_p,
-          rw at_n (path_kept _ (next_of all) _ _ (Each-so _ _ _ others.1 same)
-              (behind k _ _ _ pred.split)),
-        )
+        (path_spliced (next_of links) _ _ pred.front _ pred.behind _ (Each-so _ _ _ others.0 same)
+        (at_p, rw at_n (path_kept _ _ _ pred.behind (Each-so _ _ _ others.1 same) (behind k _ _ _ pred.split)))
         (rw pred.split at (linked.paths k))))
 
   -- the last symbol is taken out of its bucket

@@ -36,12 +36,11 @@ invariant_of-self c =
     let begins = rw (← c.self.view_is) at c.in-None.ensures in
     let leads = rw (at_bucket all, ← c.self.view_is) at c.first_symbol-first_symbol.ensures in
     let old = head_read c.self.invariant _ _ (within all) (rw (at_bucket all) at c.index-head.ensures) in
-    let alone = alone_is _ _ c.is_none.result leads c.is_none.ensures in
     rw (c.push_reserved.ensures.items, c.push_reserved-in-None.ensures.items)
     (rw (c.unwrap_or.ensures, at_bucket all)
     (holds_pushed c.self.invariant c.args.hash _ _ (within all) (rw (at_bucket all) at c.index.ensures)
     c.marked.ensures.set c.marked.ensures.kept
-    (c.with_first.ensures _ _ c.args.hash _ old alone begins
+    (c.with_first.ensures _ _ c.args.hash _ old (alone_is _ _ c.is_none.result leads c.is_none.ensures) begins
     (c.word-word.ensures.word.0, c.word-word.ensures.word.1 ∙ number_is all))
     (place_first c.self.invariant.linked _ _ (number_is all) c.word-word.ensures.number (free all) _ leads begins)))
 

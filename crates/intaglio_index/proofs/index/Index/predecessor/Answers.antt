@@ -31,8 +31,7 @@ returns-then-index-eq0 c =
     elim c.then-index-eq0.either [
       | inl none ↦ rw (is_vacant c.self.view_is c.self.invariant _ _ (within all) (rw c.requires.bucket at c.index.ensures) none) tt
       | inr p ↦
-          begins_above _ c.args.hash _ _ (some_size _) (exact all) (occupied all p.0)
-          (rw c.high-high.ensures at p.1)
+          begins_above _ c.args.hash _ _ (some_size _) (exact all) (occupied all p.0) (rw c.high-high.ensures at p.1)
     ]
 
 pub symbol-requires-clause-number : goal.symbol-requires-clause-number
