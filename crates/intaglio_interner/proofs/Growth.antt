@@ -61,8 +61,8 @@ same-held : {Q : Type 0} (form_key : Q → Key) (held : List Q) (q : Q) →
     ≡ map form_key (interned form_key held q)
 same-held form_key held q = grind (arith, common_steps)
 
-module _ {C Q : Type 0} {key : C → Key} {value_key : Q → Key} (spelling : C → List ℕ) {adds : Q → List C →
-    List C → Type 0} (copies : Bool) (one : (q : Q) (a b : List C) → adds q a b →
+module _ {C Q : Type 0} (key : C → Key) (value_key : Q → Key) (spelling : C → List ℕ) (adds : Q → List C →
+    List C → Type 0) (copies : Bool) (one : (q : Q) (a b : List C) → adds q a b →
     IsAddedOne key (value_key q) a b) (hash : Key → ℕ) where
   answered : (o : Option ℕ) (old next : State C) (q : Q) (i g : ℕ) (now : List Event)
       → MatchOption o (IsAdded (adds q) old i next) (λ j. (◌≡◌ {A = Result ℕ InternError} (Ok i) (Ok j))
@@ -106,16 +106,25 @@ module _ {C Q : Type 0} {key : C → Key} {value_key : Q → Key} (spelling : C 
       (look_up-places key value_key spelling adds copies hash old next call r now keep cost) h
 
   -- placements and contents before are at most three times the contents after
-  pub places : (old new : State C) (cost : List Event) (calls : List (Call Q)) (replies : List Reply)
-      (g : ℕ) → All KeepsContents calls → Holds old g →
+  places : (old new : State C) (calls : List (Call Q)) (replies : List Reply) (cost : List Event) (g : ℕ) →
+      All KeepsContents calls → Holds old g →
       RunsValues key value_key spelling adds copies hash old calls replies cost new
       → g + placed_count cost + length old.contents ≤ 3 * length new.contents
-  places old new cost (call ∷ calls) (r ∷ replies) g all h run =
+  places old new (call ∷ calls) (r ∷ replies) cost g all h run =
       let one = call-goes old run.0 call r run.1 g (all 0 call (omega arith)) run.4.0 run.4.1 h in
-      let rest = places run.0 new run.2 calls replies one.later (λ k d lt. all (suc k) d (omega arith))
+      let rest = places run.0 new calls replies run.2 one.later (λ k d lt. all (suc k) d (omega arith))
       one.holds run.5 in
       rw (run.3, placed_count-append run.1 run.2) (omega (arith, one.spent, rest))
-  places old new cost _ _ g all h run = grind (arith, common_steps)
+  places old new _ _ cost g all h run = grind (arith, common_steps)
+
+  -- so at the beginning of a run, where nothing was placed again
+  pub Runs-places : (old new : State C) (calls : List (Call Q)) (replies : List Reply) (cost : List Event) →
+      All KeepsContents calls →
+      RunsValues key value_key spelling adds copies hash old calls replies cost new
+      → placed_count cost + length old.contents ≤ 3 * length new.contents
+  Runs-places old new calls replies cost all run =
+      let none : Holds old 0 = record { below = λ lt. omega arith; twice = omega arith } in
+      omega (arith, places old new calls replies cost 0 all none run)
 
   -- a call hashes the key that it looks for
   step-hashes : (old next : State C) (call : Call Q) (r : Reply) (now : List Event) (calls : List (Call Q)) →
@@ -127,13 +136,13 @@ module _ {C Q : Type 0} {key : C → Key} {value_key : Q → Key} (spelling : C 
   step-hashes old next _ r now calls cost = grind (arith, common_steps)
 
   -- a run hashes the keys that its calls look for, in their order, and nothing else
-  pub Runs-hash : (old new : State C) (cost : List Event) (calls : List (Call Q)) (replies : List Reply) →
+  pub Runs-hash : (old new : State C) (calls : List (Call Q)) (replies : List Reply) (cost : List Event) →
       RunsValues key value_key spelling adds copies hash old calls replies cost new
       → hashed_keys cost ≡ searched_keys value_key calls
-  Runs-hash old new cost (call ∷ calls) (r ∷ replies) run =
-      rw (run.3, hashed_keys-append run.1 run.2, Runs-hash run.0 new run.2 calls replies run.5)
+  Runs-hash old new (call ∷ calls) (r ∷ replies) cost run =
+      rw (run.3, hashed_keys-append run.1 run.2, Runs-hash run.0 new calls replies run.2 run.5)
       (step-hashes old run.0 call r run.1 calls run.4.1)
-  Runs-hash old new cost _ _ run = grind (arith, common_steps)
+  Runs-hash old new _ _ cost run = grind (arith, common_steps)
 
   -- room that was there stays, but for calls that shrink
   call-roomier : (old next : State C) (call : Call Q) (r : Reply) → KeepsRoom call →
@@ -152,16 +161,16 @@ module _ {C Q : Type 0} {key : C → Key} {value_key : Q → Key} (spelling : C 
       rw (look_up-same key value_key spelling adds copies old next call r keep made) (omega arith)
 
   -- capacity doesn't fall over a run that shrinks nothing
-  pub Runs-roomier : (old new : State C) (cost : List Event) (calls : List (Call Q))
-      (replies : List Reply) → All KeepsRoom calls →
+  pub Runs-roomier : (old new : State C) (calls : List (Call Q)) (replies : List Reply)
+      (cost : List Event) → All KeepsRoom calls →
       RunsValues key value_key spelling adds copies hash old calls replies cost new
       → HasNoLessRoom old new
-  Runs-roomier old new cost (call ∷ calls) (r ∷ replies) all run = omega (
+  Runs-roomier old new (call ∷ calls) (r ∷ replies) cost all run = omega (
     arith,
     call-roomier old run.0 call r (all 0 call (omega arith)) run.4.0,
-    Runs-roomier run.0 new run.2 calls replies (λ k d lt. all (suc k) d (omega arith)) run.5,
+    Runs-roomier run.0 new calls replies run.2 (λ k d lt. all (suc k) d (omega arith)) run.5,
   )
-  Runs-roomier old new cost _ _ all run = grind (arith, common_steps)
+  Runs-roomier old new _ _ cost all run = grind (arith, common_steps)
 
   -- a reply that is no refusal gives a symbol
   accepted : (old new : State C) (q : Q) (r : Reply) →
@@ -194,11 +203,11 @@ module _ {C Q : Type 0} {key : C → Key} {value_key : Q → Key} (spelling : C 
   issues-from old new held _ _ cost same run none = grind (arith, common_steps)
 
   -- internings alone, none of which is refused, into an empty table are given the symbols of `issue`
-  pub Runs-issue : (old new : State C) (cost : List Event) (qs : List Q) (replies : List Reply) →
+  pub Runs-issue : (old new : State C) (qs : List Q) (replies : List Reply) (cost : List Event) →
       old.contents ≡ [] →
       RunsValues key value_key spelling adds copies hash old (map Intern qs) replies cost new
       → All (λ r. ¬ IsRefusal r) replies → replies ≡ map (λ i. reply.Symbol (Some i)) (issue value_key qs)
-  Runs-issue old new cost qs replies empty run none =
+  Runs-issue old new qs replies cost empty run none =
       issues-from old new [] qs replies cost (rw empty refl) run none
 
 -- values that aren't copied, in room that is there
@@ -228,9 +237,9 @@ module _ {C Q : Type 0} (key : C → Key) (value_key : Q → Key) (spelling : C 
   in-room old new _ _ cost run le = grind (arith, common_steps)
 
   -- as many as there is room for are interned without running out of memory, unless they are copied
-  pub Runs-room : (copies : Bool) (old new : State C) (cost : List Event) (calls : List (Call Q))
-      (replies : List Reply) → RunsValues key value_key spelling adds copies hash old calls replies cost new →
+  pub Runs-room : (copies : Bool) (old new : State C) (calls : List (Call Q)) (replies : List Reply)
+      (cost : List Event) → RunsValues key value_key spelling adds copies hash old calls replies cost new →
       HonoursRoom copies old calls replies
-  Runs-room false old new cost calls replies run =
+  Runs-room false old new calls replies cost run =
       λ qs interns few. in-room old new qs replies cost (rw interns at run) few
-  Runs-room true old new cost calls replies run = tt
+  Runs-room true old new calls replies cost run = tt

@@ -1,7 +1,7 @@
 -- Each turn puts one step behind those so far (`Adds-push`, `growing-push`). In the end these are all calls,
 -- and the clauses on the whole run follow by lemmas on any run, or are parts of the invariant.
 use Rattle.intaglio_interner.proofs.Names.{◌≡◌, ◌∙◌, [], arith, append_assoc, append-nil, refl, sym, rules, into_iter_items, All-nil, common_steps, KeepsRoom}
-use Rattle.intaglio_interner.proofs.Growth.{Runs-hash, places, Runs-room, Runs-issue, Runs-roomier}
+use Rattle.intaglio_interner.proofs.Growth.{Runs-hash, Runs-places, Runs-room, Runs-issue, Runs-roomier}
 use Rattle.intaglio_interner.proofs.Bytes.{All-next, StillRoom-next}
 use Rattle.intaglio_interner.proofs.InOrder.{Adds-push}
 use Rattle.intaglio_interner.proofs.Growths.{growing-push, call-size, grows-seldom}
@@ -61,19 +61,11 @@ returns g c =
     record {
       ok = ran;
       issues = λ cs empty interns none.
-          Runs-issue _ _ one _ _ _ ran.0 cs _ empty (rw interns at ran.2) none;
-      hashes = (ran.0, ran.1, Runs-hash _ _ one _ _ _ ran.0 _ _ ran.2);
-      growth = (
-        ran.0,
-        ran.1,
-        λ keep. omega (
-          arith,
-          places _ _ one _ _ _ ran.0 _ _ 0 keep
-              (record { below = λ lt. omega arith; twice = omega arith }) ran.2,
-        ),
-      );
-      capacity = λ keep. Runs-roomier _ _ one _ _ _ ran.0 _ _ keep ran.2;
-      room = Runs-room _ _ _ g.Q.AddedTo.adds _ g.Q.AddedTo.copies _ _ ran.0 _ _ ran.2;
+          search (Runs-issue, one, empty, rw interns at ran.2, none);
+      hashes = (ran.0, ran.1, search (Runs-hash, one, ran.2));
+      growth = (ran.0, ran.1, λ keep. search (Runs-places, one, keep, ran.2));
+      capacity = λ keep. search (Runs-roomier, one, keep, ran.2);
+      room = search (Runs-room, ran.2);
       same_hash = c.loop-call.invariant.same_hash;
       bytes = c.loop-call.invariant.bytes;
       byte_room = λ qs interns few there enough. (c.loop-call.invariant.still qs interns few there enough).0;
