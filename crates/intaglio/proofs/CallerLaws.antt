@@ -59,7 +59,7 @@ module _ {C : Type 0} (key : C → Key) where
 
   -- the same contents are found at the same symbols
   pub same_contents_keeps : (old new : State C) → new.contents ≡ old.contents → Keeps key old new
-  same_contents_keeps = below.same_contents-keeps key
+  same_contents_keeps = below.same-contents-keeps key
 
   -- what is kept over one call and over the next is kept over both
   pub keeps_then : (old next new : State C) → Keeps key old next → Keeps key next new → Keeps key old new

@@ -5,7 +5,7 @@ pub use Rattle.intaglio_content.specs.Work.{Event, compared, hashed, placed, ste
 pub use Rattle.intaglio_core.specs.IndexOf.{AreHashed, IndexState, LookupCost, PlacesAtMost}
 pub use Rattle.intaglio_core.specs.Indexed.{AddCost, IsIndexed}
 pub use Rattle.intaglio_interner.proofs.First.{first-none, first-some, found-within, key_eq-decides, none-each}
-pub use Rattle.intaglio_interner.proofs.Laws.{added, cut-keeps, found_again, read-found, spelling-found}
+pub use Rattle.intaglio_interner.proofs.Laws.{added, cut-keeps, found-again, read-found, spelling-found}
 pub use Rattle.intaglio_interner.specs.Cost.{Adds, Costs, InternCost, IsGrowthCost, IsRecorded, IsRoomCost, IsSearchCost, KnownInternCost, KnownSearchCost, SearchCost, bucket_keys, hashed_keys, placed_count, sought_keys, step_count, stored_keys}
 pub use Rattle.intaglio_interner.specs.State.{AreDistinct, IsValid, State, first, first_of, key_eq}
 pub use Rattle.std.proofs.Common.{Bool, Err, List, None, Ok, Option, Result, Some, [], ap, append-nil, append_assoc, arith, cond, eqb, false, filter, get_or, inl, inr, length, length-append, map, max, min, option_copied, option_map, refl, replicate, rules, slice_get, subst, suc, sym, take, true, zero, ℕ, ◌%◌, ◌&&◌, ◌*◌, ◌++◌, ◌+◌, ◌-◌, ◌/◌, ◌<◌, ◌==◌, ◌^◌, ◌∙◌, ◌∷◌, ◌≡◌, ◌≢◌, ◌≤◌}

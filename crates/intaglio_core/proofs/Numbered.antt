@@ -68,11 +68,11 @@ module _ (keys : List Key) (k : Key) where
   spent-push (suc n) is s = ap (λ es. step ∷ es) (spent-push n is s)
 
   -- it goes on by a comparison with another key, and a step
-  pub goes_on : (passed : ℕ) (numbers rest : List ℕ) (s : ℕ) (start now middle later : List Event) →
+  pub goes-on : (passed : ℕ) (numbers rest : List ℕ) (s : ℕ) (start now middle later : List Event) →
       IsSearching passed numbers (s ∷ rest) start now → key_at s ≢ k
       → middle ≡ now ++ compared k (key_at s) ∷ [] → later ≡ middle ++ step ∷ [] →
       IsSearching passed numbers rest start later
-  goes_on passed numbers rest s start now middle later is other compares steps =
+  goes-on passed numbers rest s start now middle later is other compares steps =
       let events = spent (passed + 1) is.seen in
       let more : start ++ spent (passed + 1) (is.seen ++ s ∷ [])
       ≡ ((start ++ events) ++ compared k (key_at s) ∷ []) ++ step ∷ [] =
@@ -106,24 +106,24 @@ module _ (hash : Key → ℕ) (keys : List Key) (k : Key) where
 
   module _ (distinct : AreDistinct keys) (numbers : List ℕ) (equal : AreEqualHashes numbers) where
     -- different numbers have different keys
-    keys_apart : (i j : ℕ) → i < length keys → j < length keys → i ≢ j → key_at keys k i ≢ key_at keys k j
-    keys_apart i j li lj n = elim (cases_lt i j) [
+    keys-apart : (i j : ℕ) → i < length keys → j < length keys → i ≢ j → key_at keys k i ≢ key_at keys k j
+    keys-apart i j li lj n = elim (cases_lt i j) [
       | inl low ↦ distinct i j [] low lj
       | inr high ↦ λ e. distinct j i [] (omega (arith, high, n)) li (sym e)
     ]
 
-    all_apart : AreDistinct (map (key_at keys k) numbers)
-    all_apart i j d l lj =
+    all-apart : AreDistinct (map (key_at keys k) numbers)
+    all-apart i j d l lj =
         let size = length-map numbers (key_at keys k) in
         let jn : j < length numbers = omega (arith, lj, size) in
         let in_ : i < length numbers = omega (arith, l, lj, size) in
         let a = equal.each i 0 in_ in
         let b = equal.each j 0 jn in
         rw (get_or-map (key_at keys k) numbers i 0 d in_, get_or-map (key_at keys k) numbers j 0 d jn)
-        (keys_apart (get_or numbers i 0) (get_or numbers j 0) a.0 b.0 (equal.apart i j 0 l jn))
+        (keys-apart (get_or numbers i 0) (get_or numbers j 0) a.0 b.0 (equal.apart i j 0 l jn))
 
-    all_within : (places : ℕ) → All (Contains (bucket_keys hash places keys k)) (map (key_at keys k) numbers)
-    all_within places =
+    all-within : (places : ℕ) → All (Contains (bucket_keys hash places keys k)) (map (key_at keys k) numbers)
+    all-within places =
         All-map (Contains (bucket_keys hash places keys k)) (key_at keys k) numbers
         (λ at d l.
         (let is = equal.each at d l in
@@ -134,15 +134,15 @@ module _ (hash : Key → ℕ) (keys : List Key) (k : Key) where
         (sym (get_or_default keys i [] (key_at keys k i) is.0))))
 
     -- so the bucket of the key has as many keys at least
-    pub none_passed : (places : ℕ) → 0 + length numbers ≤ length (bucket_keys hash places keys k)
-    none_passed places =
+    pub none-passed : (places : ℕ) → 0 + length numbers ≤ length (bucket_keys hash places keys k)
+    none-passed places =
         let found =
         length-le_from_is_member key_eq-equivalence (map (key_at keys k) numbers)
         (bucket_keys hash places keys k)
-        (IsDistinct-from_AllPairs key_eq-decides (map (key_at keys k) numbers) all_apart)
+        (IsDistinct-from_AllPairs key_eq-decides (map (key_at keys k) numbers) all-apart)
         (λ q there. (is_member-Decides key_eq-decides (bucket_keys hash places keys k) q).1
         (All-contains (Contains (bucket_keys hash places keys k)) (map (key_at keys k) numbers) q
-        (all_within places) ((is_member-Decides key_eq-decides (map (key_at keys k) numbers) q).0 there)))
+        (all-within places) ((is_member-Decides key_eq-decides (map (key_at keys k) numbers) q).0 there)))
         in
         omega (arith, found, length-map numbers (key_at keys k))
 
@@ -167,8 +167,8 @@ module _ (hash : Key → ℕ) (keys : List Key) (k : Key) where
             hashings = ap (λ ks. k ∷ ks) (r.0 ∙ none);
             sought = r.1 sought;
             once = rw is (λ i j d l lj.
-                rw (← left i d (omega arith), ← left j d lj) (all_apart i j d l (omega arith)));
-            within = rw is (λ i d l. rw (← left i d l) (all_within places i d (omega arith)));
+                rw (← left i d (omega arith), ← left j d lj) (all-apart i j d l (omega arith)));
+            within = rw is (λ i d l. rw (← left i d l) (all-within places i d (omega arith)));
             equal_hashes = rw is (λ i d l. rw (← left i d l)
                 (All-map (λ x. hash x ≡ hash k) (key_at keys k) numbers (λ at d l. (equal.each at d l).1) i
                 d (omega arith)));

@@ -30,10 +30,10 @@ Each-right P [] ys h = h
 Each-right P (x ∷ xs) ys h = Each-right P xs ys h.1
 
 -- what holds of each symbol holds of that of an entry
-pub symbol_at : (P : ℕ → Type 0) (front : List (ℕ × ℕ)) (e : ℕ × ℕ) (behind : List (ℕ × ℕ)) →
+pub symbol-at : (P : ℕ → Type 0) (front : List (ℕ × ℕ)) (e : ℕ × ℕ) (behind : List (ℕ × ℕ)) →
     AllByRecursion P (symbols_of (front ++ e ∷ behind)) → P e.0
-symbol_at P [] e behind h = h.0
-symbol_at P (x ∷ front) e behind h = symbol_at P front e behind h.1
+symbol-at P [] e behind h = h.0
+symbol-at P (x ∷ front) e behind h = symbol-at P front e behind h.1
 
 -- what holds of each element of two lists holds of each of their append
 pub Each-append : {X : Type 0} (P : X → Type 0) (xs ys : List X) → AllByRecursion P xs → AllByRecursion P ys →
@@ -182,24 +182,24 @@ InOrder [] = Unit {0}
 InOrder (e ∷ es) = AllByRecursion (λ (f : ℕ × ℕ). e.1 ≤ f.1) es × InOrder es
 
 -- if hashes don't decrease along a list, they don't after an insertion either
-insert_sorted-in_order : (s h : ℕ) (es : List (ℕ × ℕ)) → InOrder es → InOrder (insert_sorted s h es)
-insert_sorted-in_order s h [] o = (tt, tt)
-insert_sorted-in_order s h (e ∷ es) o =
+insert_sorted-in-order : (s h : ℕ) (es : List (ℕ × ℕ)) → InOrder es → InOrder (insert_sorted s h es)
+insert_sorted-in-order s h [] o = (tt, tt)
+insert_sorted-in-order s h (e ∷ es) o =
     cond_both (ltb e.1 h) (e ∷ insert_sorted s h es) ((s, h) ∷ e ∷ es) InOrder (λ is. (
       insert_sorted-each (λ f. e.1 ≤ f.1) s h es (omega (arith, ltb-true e.1 h is)) o.0,
-      insert_sorted-in_order s h es o.1,
+      insert_sorted-in-order s h es o.1,
     )) (λ is. (let le : h ≤ e.1 = ltb-false e.1 h is in (
       (le, Each-so _ _ es o.0 (λ f l. omega arith)),
       o,
     )))
 
 -- if hashes don't decrease along the entries met so far, they don't after more hashes are added
-chain_from-in_order : (count b at : ℕ) (met : List (ℕ × ℕ)) (hs : List ℕ) → InOrder met →
+chain_from-in-order : (count b at : ℕ) (met : List (ℕ × ℕ)) (hs : List ℕ) → InOrder met →
     InOrder (chain_from count b at met hs)
-chain_from-in_order count b at met [] o = o
-chain_from-in_order count b at met (h ∷ hs) o = chain_from-in_order count b (at + 1) _ hs
+chain_from-in-order count b at met [] o = o
+chain_from-in-order count b at met (h ∷ hs) o = chain_from-in-order count b (at + 1) _ hs
     (cond_both (eqb (h % count) b) (insert_sorted at h met) met InOrder
-    (λ t. insert_sorted-in_order at h met o) (λ t. o))
+    (λ t. insert_sorted-in-order at h met o) (λ t. o))
 
 -- a list along which the hashes don't decrease is sorted: of each two entries the first has no greater hash
 sorted-from-order : (es : List (ℕ × ℕ)) → InOrder es → AreSorted es
@@ -209,9 +209,9 @@ sorted-from-order (e ∷ es) o =
     (sorted-from-order es o.1)
 
 -- the hashes along a bucket's chain don't decrease
-pub chain-in_order : (v : Placed) (b : ℕ) → InOrder (chain v b)
+pub chain-in-order : (v : Placed) (b : ℕ) → InOrder (chain v b)
 unfolding chain
-chain-in_order v b = chain_from-in_order v.count b 0 [] v.hashes tt
+chain-in-order v b = chain_from-in-order v.count b 0 [] v.hashes tt
 
 -- the symbols of a bucket's chain are its members, in some order
 pub chain-permutation : (v : Placed) (b : ℕ) → IsPermutation (members v b) (symbols_of (chain v b))
@@ -234,7 +234,7 @@ pub chain-bucket : (v : Placed) (h : ℕ) → IsBucket v h
 unfolding chain
 chain-bucket v h = record {
   members = chain-places v.count (h % v.count) v.hashes;
-  sorted = sorted-from-order _ (chain-in_order v (h % v.count));
+  sorted = sorted-from-order _ (chain-in-order v (h % v.count));
   hashes = chain-each v.count (h % v.count) v.hashes;
 }
 

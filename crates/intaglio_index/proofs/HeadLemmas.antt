@@ -5,9 +5,9 @@ use Rattle.std.specs.List.{IsDistinct}
 use Rattle.intaglio_index.specs.declared.index.modulus.Modulus.{Modulus}
 use Rattle.intaglio_index.specs.Modulus.{IsModulus}
 use Rattle.intaglio_index.proofs.FilterLemmas.{filtered-push, filtered-take, filtered-vacated, marked-some}
-use Rattle.intaglio_index.proofs.LinkLemmas.{others_stay, path_within}
+use Rattle.intaglio_index.proofs.LinkLemmas.{others-stay, path-within}
 use Rattle.intaglio_index.specs.Placed.{chain}
-use Rattle.intaglio_index.proofs.ChainLemmas.{put-some, put-behind, chain-grows, chain-stays, symbol_at, chain-entries}
+use Rattle.intaglio_index.proofs.ChainLemmas.{put-some, put-behind, chain-grows, chain-stays, symbol-at, chain-entries}
 
 -- a head whose words are both 0
 abbrev pub no_head : Head
@@ -18,80 +18,80 @@ pub neither : {A B : Type 0} → (A → ⊥) → (B → ⊥) → A ↔ B
 neither f g = (λ a. absurd (f a), λ b. absurd (g b))
 
 -- a list without a first symbol is empty
-pub nil_leader : (es : List (ℕ × ℕ)) → None ≡ first_symbol_of es → es ≡ []
-nil_leader [] e = refl
-nil_leader (x ∷ xs) e = cc
+pub nil-leader : (es : List (ℕ × ℕ)) → None ≡ first_symbol_of es → es ≡ []
+nil-leader [] e = refl
+nil-leader (x ∷ xs) e = cc
 
 -- a list with a first symbol isn't empty
-pub led_some : (es : List (ℕ × ℕ)) (s : ℕ) → Some s ≡ first_symbol_of es → es ≡ [] → ⊥
-led_some [] s e none = (let never = e in cc)
-led_some (x ∷ xs) s e none = cc
+pub led-some : (es : List (ℕ × ℕ)) (s : ℕ) → Some s ≡ first_symbol_of es → es ≡ [] → ⊥
+led-some [] s e none = (let never = e in cc)
+led-some (x ∷ xs) s e none = cc
 
 -- a list that isn't empty is a first entry and a rest
-pub some_entries : (es : List (ℕ × ℕ)) → (es ≡ [] → ⊥) → (e : ℕ × ℕ) × (rest : List (ℕ × ℕ)) × (es ≡ e ∷ rest)
-some_entries [] n = absurd (n refl)
-some_entries (x ∷ xs) n = (x, xs, refl)
+pub some-entries : (es : List (ℕ × ℕ)) → (es ≡ [] → ⊥) → (e : ℕ × ℕ) × (rest : List (ℕ × ℕ)) × (es ≡ e ∷ rest)
+some-entries [] n = absurd (n refl)
+some-entries (x ∷ xs) n = (x, xs, refl)
 
 -- a symbol is put into a bucket
 module _ (size s h word : ℕ) (is_word : IsWord size (s, h) word) where
   -- which is empty
-  pub head_alone : (path : List (ℕ × ℕ)) → path ≡ [] →
+  pub head-alone : (path : List (ℕ × ℕ)) → path ≡ [] →
       IsHead size (record { first = word; second = word }) (insert_sorted s h path)
-  head_alone path none = rw none (is_word, is_word)
+  head-alone path none = rw none (is_word, is_word)
 
   -- behind the first one
-  second_at : (head : Head) (front : List (ℕ × ℕ)) (last hash : ℕ) (behind : List (ℕ × ℕ)) →
+  second-at : (head : Head) (front : List (ℕ × ℕ)) (last hash : ℕ) (behind : List (ℕ × ℕ)) →
       IsDistinct eqb (symbols_of (front ++ (last, hash) ∷ behind)) →
       IsHead size head (front ++ (last, hash) ∷ behind) →
       Some last ≡ first_symbol_of (front ++ (last, hash) ∷ behind) →
       IsHead size (record { first = head.first; second = word }) (front ++ (last, hash) ∷ (s, h) ∷ behind)
   unfolding IsDistinct
-  second_at head [] last hash behind apart is leads = (is.0, is_word)
-  second_at head (x ∷ front) last hash behind apart is leads =
-      absurd (eqb-false x.0 last (symbol_at (λ s. eqb x.0 s ≡ false) front (last, hash) behind apart.0) cc)
+  second-at head [] last hash behind apart is leads = (is.0, is_word)
+  second-at head (x ∷ front) last hash behind apart is leads =
+      absurd (eqb-false x.0 last (symbol-at (λ s. eqb x.0 s ≡ false) front (last, hash) behind apart.0) cc)
 
-  pub head_second : (head : Head) (path : List (ℕ × ℕ)) (last : ℕ) → IsDistinct eqb (symbols_of path) →
+  pub head-second : (head : Head) (path : List (ℕ × ℕ)) (last : ℕ) → IsDistinct eqb (symbols_of path) →
       IsHead size head path → Some last ≡ first_symbol_of path → IsPredecessor h path last →
       IsHead size (record { first = head.first; second = word }) (insert_sorted s h path)
-  head_second head path last apart is leads pred = rw (put-behind s h path last pred)
-      (second_at head pred.front last pred.hash pred.behind (rw pred.split at apart) (rw pred.split at is)
+  head-second head path last apart is leads pred = rw (put-behind s h path last pred)
+      (second-at head pred.front last pred.hash pred.behind (rw pred.split at apart) (rw pred.split at is)
       (rw pred.split at leads))
 
   -- further behind
-  later_at : (head : Head) (front : List (ℕ × ℕ)) (first last hash : ℕ) (behind : List (ℕ × ℕ)) →
+  later-at : (head : Head) (front : List (ℕ × ℕ)) (first last hash : ℕ) (behind : List (ℕ × ℕ)) →
       IsHead size head (front ++ (last, hash) ∷ behind) →
       Some first ≡ first_symbol_of (front ++ (last, hash) ∷ behind) → first ≢ last →
       IsHead size head (front ++ (last, hash) ∷ (s, h) ∷ behind)
-  later_at head [] first last hash behind is leads other = absurd (other cc)
-  later_at head (x ∷ []) first last hash behind is leads other = is
-  later_at head (x ∷ y ∷ front) first last hash behind is leads other = is
+  later-at head [] first last hash behind is leads other = absurd (other cc)
+  later-at head (x ∷ []) first last hash behind is leads other = is
+  later-at head (x ∷ y ∷ front) first last hash behind is leads other = is
 
-  pub head_stays : (head : Head) (path : List (ℕ × ℕ)) (first last : ℕ) → IsHead size head path →
+  pub head-stays : (head : Head) (path : List (ℕ × ℕ)) (first last : ℕ) → IsHead size head path →
       Some first ≡ first_symbol_of path → first ≢ last → IsPredecessor h path last →
       IsHead size head (insert_sorted s h path)
-  head_stays head path first last is leads other pred = rw (put-behind s h path last pred)
-      (later_at head pred.front first last pred.hash pred.behind (rw pred.split at is)
+  head-stays head path first last is leads other pred = rw (put-behind s h path last pred)
+      (later-at head pred.front first last pred.hash pred.behind (rw pred.split at is)
       (rw pred.split at leads) other)
 
 -- in an empty bucket nothing stands in front
-pub never_behind : (h : ℕ) (path : List (ℕ × ℕ)) (last : ℕ) → path ≡ [] → IsPredecessor h path last → ⊥
-never_behind h path last none pred =
+pub never-behind : (h : ℕ) (path : List (ℕ × ℕ)) (last : ℕ) → path ≡ [] → IsPredecessor h path last → ⊥
+never-behind h path last none pred =
     (let parts : [] ≡ pred.front ++ (last, pred.hash) ∷ pred.behind = sym none ∙ pred.split in
     omega (arith, ap length parts, length-append pred.front ((last, pred.hash) ∷ pred.behind)))
 
 -- the head of a list that is read off the hashes and links
 module _ {hashes links : List ℕ} {s : ℕ} where
   -- its first symbol is placed
-  pub thread_within : (path : List (ℕ × ℕ)) → IsThread hashes links (Some s) path → s < length hashes
-  thread_within path t = path_within (next_of links) path t.read (λ e is. is.0) t.path s refl
+  pub thread-within : (path : List (ℕ × ℕ)) → IsThread hashes links (Some s) path → s < length hashes
+  thread-within path t = path-within (next_of links) path t.read (λ e is. is.0) t.path s refl
 
   -- and so is its second
-  pub thread_next : (path : List (ℕ × ℕ)) {next : ℕ} → IsThread hashes links (Some s) path →
+  pub thread-next : (path : List (ℕ × ℕ)) {next : ℕ} → IsThread hashes links (Some s) path →
       next_of links s ≡ Some next → next < length hashes
-  thread_next [] t e = (let never = t.path in cc)
-  thread_next (x ∷ es) {next} t e =
+  thread-next [] t e = (let never = t.path in cc)
+  thread-next (x ∷ es) {next} t e =
       let same : s ≡ x.0 = (let q = t.path.0 in cc) in
-      path_within (next_of links) es t.read.1 (λ e is. is.0) t.path.1 next (rw same at e)
+      path-within (next_of links) es t.read.1 (λ e is. is.0) t.path.1 next (rw same at e)
 
 -- a bucket with a symbol, and its head
 pub record IsOccupied (v : Placed) (k size : ℕ) (head : Head) : Type 0 where
@@ -114,41 +114,41 @@ module _ {v : Placed} {m : Modulus} {heads : List Head} {filters hashes : List �
     {room : ℕ} (view : ◌≡◌ {A = Placed} (record { count = length heads; hashes = hashes; room = room }) v)
     (holds : Holds m heads filters hashes links) where
   -- there are as many heads as buckets
-  pub count_is : v.count ≡ length heads
-  count_is = ap (λ (v : Placed). v.count) (sym view)
+  pub count-is : v.count ≡ length heads
+  count-is = ap (λ (v : Placed). v.count) (sym view)
 
   -- the placed symbols are below 2^32
   pub numbered : length v.hashes ≤ 2 ^ 32
   numbered = rw (← view) holds.linked.numbered
 
-  empty_bucket_at : (k : ℕ) → k < v.count → (get_or filters k 0 ≡ 0) ↔ (chain v k ≡ [])
+  empty_bucket-at : (k : ℕ) → k < v.count → (get_or filters k 0 ≡ 0) ↔ (chain v k ≡ [])
   unfolding chain
-  empty_bucket_at k within = rw (← view) (holds.headed.empty_bucket k (omega (arith, count_is, within)))
+  empty_bucket-at k within = rw (← view) (holds.headed.empty_bucket k (omega (arith, count-is, within)))
 
-  words_at : (k : ℕ) → k < v.count → IsHead (m.mask + 1) (get_or heads k no_head) (chain v k)
+  words-at : (k : ℕ) → k < v.count → IsHead (m.mask + 1) (get_or heads k no_head) (chain v k)
   unfolding chain
-  words_at k within = rw (← view) (holds.headed.words k (omega (arith, count_is, within)))
+  words-at k within = rw (← view) (holds.headed.words k (omega (arith, count-is, within)))
 
   -- a bucket whose filter is 0 is empty
-  pub is_vacant : (k filter : ℕ) → k < v.count → filter ≡ get_or filters k filter → filter ≡ 0 → chain v k ≡ []
-  is_vacant k filter within read none = (empty_bucket_at k within).0
-      (sym (get_or_read filters k filter (omega (arith, count_is, holds.filtered.size)) read 0) ∙ none)
+  pub is-vacant : (k filter : ℕ) → k < v.count → filter ≡ get_or filters k filter → filter ≡ 0 → chain v k ≡ []
+  is-vacant k filter within read none = (empty_bucket-at k within).0
+      (sym (get_or_read filters k filter (omega (arith, count-is, holds.filtered.size)) read 0) ∙ none)
 
   -- where the bucket is known to have a symbol
-  pub is_occupied_by : (k : ℕ) (head : Head) → k < v.count → head ≡ get_or heads k head →
+  pub is-occupied-by : (k : ℕ) (head : Head) → k < v.count → head ≡ get_or heads k head →
       (chain v k ≡ [] → ⊥) → IsOccupied v k (m.mask + 1) head
-  is_occupied_by k head within read some =
-      let parts = some_entries (chain v k) some in
+  is-occupied-by k head within read some =
+      let parts = some-entries (chain v k) some in
       let same : head ≡ get_or heads k no_head =
-      get_or_read heads k head (omega (arith, count_is)) read no_head in
-      record { e = parts.0; es = parts.1; split = parts.2; is = rw (← same, parts.2) at (words_at k within) }
+      get_or_read heads k head (omega (arith, count-is)) read no_head in
+      record { e = parts.0; es = parts.1; split = parts.2; is = rw (← same, parts.2) at (words-at k within) }
 
   -- a bucket whose filter isn't 0 has a symbol
-  pub is_occupied : (k : ℕ) (head : Head) (filter : ℕ) → k < v.count → head ≡ get_or heads k head →
+  pub is-occupied : (k : ℕ) (head : Head) (filter : ℕ) → k < v.count → head ≡ get_or heads k head →
       filter ≡ get_or filters k filter → (filter ≡ 0 → ⊥) → IsOccupied v k (m.mask + 1) head
-  is_occupied k head filter within read_head read some = is_occupied_by k head within read_head (λ none.
-      some (get_or_read filters k filter (omega (arith, count_is, holds.filtered.size)) read 0
-      ∙ (empty_bucket_at k within).1 none))
+  is-occupied k head filter within read_head read some = is-occupied-by k head within read_head (λ none.
+      some (get_or_read filters k filter (omega (arith, count-is, holds.filtered.size)) read 0
+      ∙ (empty_bucket-at k within).1 none))
 
 module _ {v : Placed} {k size : ℕ} {head : Head} (o : IsOccupied v k size head) where
   -- the entries of a bucket with a symbol are placed symbols of it, with their hashes
@@ -160,34 +160,34 @@ module _ {v : Placed} {k size : ℕ} {head : Head} (o : IsOccupied v k size head
   leads = ap first_symbol_of o.split ∙ ap (λ s. Some s) (sym o.is.0.1)
 
   -- which is that of a placed symbol
-  pub first_within : head.first % size < length v.hashes
-  first_within = omega (arith, o.is.0.1, entries.0.0)
+  pub first-within : head.first % size < length v.hashes
+  first-within = omega (arith, o.is.0.1, entries.0.0)
 
-  second_in : (es : List (ℕ × ℕ)) → IsHead size head (o.e ∷ es) →
+  second-in : (es : List (ℕ × ℕ)) → IsHead size head (o.e ∷ es) →
       AllByRecursion (IsEntry v.count k v.hashes) (o.e ∷ es) → head.second % size < length v.hashes
-  second_in [] is each = omega (arith, is.1.1, each.0.0)
-  second_in (f ∷ fs) is each = omega (arith, is.1.1, each.1.0.0)
+  second-in [] is each = omega (arith, is.1.1, each.0.0)
+  second-in (f ∷ fs) is each = omega (arith, is.1.1, each.1.0.0)
 
   -- and so is the second word
-  pub second_within : head.second % size < length v.hashes
-  second_within = second_in o.es o.is entries
+  pub second-within : head.second % size < length v.hashes
+  second-within = second-in o.es o.is entries
 
 module _ {m : Modulus} {heads : List Head} {filters hashes : List ℕ} {links : List Symbol}
     (holds : Holds m heads filters hashes links) where
   -- a head that was read
-  pub head_read : (k : ℕ) (head : Head) → k < length heads → head ≡ get_or heads k head →
+  pub head-read : (k : ℕ) (head : Head) → k < length heads → head ≡ get_or heads k head →
       IsHead (m.mask + 1) head (chain_from (length heads) k 0 [] hashes)
-  head_read k head within read =
+  head-read k head within read =
       rw (← get_or_read heads k head within read no_head) at (holds.headed.words k within)
 
   -- one bucket changes
-  holds_changed : (later : List ℕ) (after : List Symbol) (k : ℕ) (head : Head) (filter : ℕ) → k < length heads →
+  holds-changed : (later : List ℕ) (after : List Symbol) (k : ℕ) (head : Head) (filter : ℕ) → k < length heads →
       ((b : ℕ) → b ≢ k → chain_from (length heads) b 0 [] later ≡ chain_from (length heads) b 0 [] hashes) →
       (filter ≡ 0) ↔ (chain_from (length heads) k 0 [] later ≡ []) →
       IsHead (m.mask + 1) head (chain_from (length heads) k 0 [] later) → IsLinked (length heads) later after →
       IsFiltered (set filters k filter) (length heads) later →
       Holds m (set heads k head) (set filters k filter) later after
-  holds_changed later after k head filter within others empty is linked filtered =
+  holds-changed later after k head filter within others empty is linked filtered =
       let count = length-set heads k head in
       let lf : k < length filters = omega (arith, holds.filtered.size) in
       record {
@@ -210,7 +210,7 @@ module _ {m : Modulus} {heads : List Head} {filters hashes : List ℕ} {links : 
       }
 
   -- one hash more
-  pub holds_pushed : (hash mark : ℕ) {filter : ℕ} (head : Head) {after : List Symbol} →
+  pub holds-pushed : (hash mark : ℕ) {filter : ℕ} (head : Head) {after : List Symbol} →
       hash % length heads < length heads → filter ≡ get_or filters (hash % length heads) filter →
       IsMarked mark hash → ((other : ℕ) → IsMarked filter other → IsMarked mark other) →
       IsHead (m.mask + 1) head
@@ -218,11 +218,11 @@ module _ {m : Modulus} {heads : List Head} {filters hashes : List ℕ} {links : 
       IsLinked (length heads) (hashes ++ hash ∷ []) after →
       Holds m (set heads (hash % length heads) head) (set filters (hash % length heads) mark)
       (hashes ++ hash ∷ []) after
-  holds_pushed hash mark {filter} head {after} within read marked kept is linked =
+  holds-pushed hash mark {filter} head {after} within read marked kept is linked =
       let k : ℕ = hash % length heads in
       let same = get_or_read filters k filter (omega (arith, holds.filtered.size)) read 0 in
       let grows = chain-grows (length heads) hashes hash in
-      holds_changed (hashes ++ hash ∷ []) after k head mark within
+      holds-changed (hashes ++ hash ∷ []) after k head mark within
       (λ b other. chain-stays (length heads) b hashes hash other) (neither (marked-some mark hash marked)
       (λ e. put-some (length hashes) hash (chain_from (length heads) k 0 [] hashes) (sym grows ∙ e)))
       (rw grows is) linked (filtered-push filters (length heads) hashes hash mark holds.filtered within marked
@@ -238,31 +238,31 @@ module _ {m : Modulus} {heads : List Head} {filters hashes : List ℕ} {links : 
     marked none = grind (arith, common_steps)
 
     -- and has no symbol left
-    pub holds_vacated : (after : List Symbol) → IsLinked (length heads) (take i hashes) after →
+    pub holds-vacated : (after : List Symbol) → IsLinked (length heads) (take i hashes) after →
         chain_from (length heads) (hash % length heads) 0 [] (take i hashes) ≡ [] →
         Holds m heads (set filters (hash % length heads) 0) (take i hashes) after
-    holds_vacated after linked empty = rw (set-get_or heads (hash % length heads) no_head) at
-        (holds_changed (take i hashes) after (hash % length heads) (get_or heads (hash % length heads) no_head) 0 within
-        (others_stay holds.linked hash i last read) (λ e. empty, λ e. refl) (rw empty tt) linked
+    holds-vacated after linked empty = rw (set-get_or heads (hash % length heads) no_head) at
+        (holds-changed (take i hashes) after (hash % length heads) (get_or heads (hash % length heads) no_head) 0 within
+        (others-stay holds.linked hash i last read) (λ e. empty, λ e. refl) (rw empty tt) linked
         (filtered-vacated _ (filtered-take i holds.filtered) empty))
 
     -- and begins with this symbol
-    pub holds_read : (after : List Symbol) (head : Head) (first : Symbol) →
+    pub holds-read : (after : List Symbol) (head : Head) (first : Symbol) →
         IsLinked (length heads) (take i hashes) after →
         Some first ≡ first_symbol_of (chain_from (length heads) (hash % length heads) 0 [] (take i hashes)) →
         IsHead (m.mask + 1) head (chain_from (length heads) (hash % length heads) 0 [] (take i hashes)) →
         Holds m (set heads (hash % length heads) head) filters (take i hashes) after
-    holds_read after head first linked leads is =
+    holds-read after head first linked leads is =
         let same = set-get_or filters (hash % length heads) 0 in
-        rw same at (holds_changed (take i hashes) after (hash % length heads) head
+        rw same at (holds-changed (take i hashes) after (hash % length heads) head
         (get_or filters (hash % length heads) 0) within
-        (others_stay holds.linked hash i last read) (neither marked (led_some _ _ leads)) is linked
+        (others-stay holds.linked hash i last read) (neither marked (led-some _ _ leads)) is linked
         (rw same (filtered-take i holds.filtered)))
 
 -- whether a bucket has no symbol
-pub alone_is : (path : List (ℕ × ℕ)) (first_symbol : Option ℕ) (alone : Bool) →
+pub alone-is : (path : List (ℕ × ℕ)) (first_symbol : Option ℕ) (alone : Bool) →
     first_symbol ≡ first_symbol_of path → is_some first_symbol ≡ not alone → (alone ≡ true) ↔ (path ≡ [])
-alone_is [] first_symbol true leads tells = (λ e. refl, λ e. refl)
-alone_is [] first_symbol false leads tells = absurd (true≢false (sym tells ∙ ap is_some leads))
-alone_is (x ∷ xs) first_symbol true leads tells = absurd (true≢false (sym (ap is_some leads) ∙ tells))
-alone_is (x ∷ xs) first_symbol false leads tells = neither (λ e. false≢true e) (λ e. cc)
+alone-is [] first_symbol true leads tells = (λ e. refl, λ e. refl)
+alone-is [] first_symbol false leads tells = absurd (true≢false (sym tells ∙ ap is_some leads))
+alone-is (x ∷ xs) first_symbol true leads tells = absurd (true≢false (sym (ap is_some leads) ∙ tells))
+alone-is (x ∷ xs) first_symbol false leads tells = neither (λ e. false≢true e) (λ e. cc)

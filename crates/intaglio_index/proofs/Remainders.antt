@@ -21,16 +21,16 @@ module _ (size count inverse over hash quotient left : ℕ) (reciprocal : invers
       let p : hash * inverse * count ≡ (quotient * size + left) * count = ap (λ n. n * count) product in
       omega (arith, h, p)
 
-  below_quotient : quotient * count ≤ hash
-  below_quotient = elim (cases_lt hash (quotient * count)) [
+  below-quotient : quotient * count ≤ hash
+  below-quotient = elim (cases_lt hash (quotient * count)) [
     | inl above ↦ (let next : hash + 1 ≤ quotient * count = omega arith in
         let scaled : (hash + 1) * size ≤ quotient * count * size = mul-le-mul_right size next in
         absurd (omega (arith, whole, scaled)))
     | inr at_most ↦ at_most
   ]
 
-  one_short : hash < quotient * count + 2 * count
-  one_short = elim (cases_lt hash (quotient * count + 2 * count)) [
+  one-short : hash < quotient * count + 2 * count
+  one-short = elim (cases_lt hash (quotient * count + 2 * count)) [
     | inl less ↦ less
     | inr far ↦
         (let scaled : (quotient * count + 2 * count) * size ≤ hash * size = mul-le-mul_right size far in
@@ -52,16 +52,16 @@ module _ (hash count inverse : ℕ) (some : 0 < count) (is : inverse ≡ (2 ^ 64
   product = sym (div-add-mod' (hash * inverse) (2 ^ 64))
 
   -- the quotient by the reciprocal is not above the true one
-  pub by_reciprocal : hash * inverse / 2 ^ 64 * count ≤ hash
-  by_reciprocal = below_quotient (2 ^ 64) count inverse ((2 ^ 64 - 1) % count) hash (hash * inverse / 2 ^ 64)
+  pub by-reciprocal : hash * inverse / 2 ^ 64 * count ≤ hash
+  by-reciprocal = below-quotient (2 ^ 64) count inverse ((2 ^ 64 - 1) % count) hash (hash * inverse / 2 ^ 64)
       (hash * inverse % 2 ^ 64) reciprocal (omega arith) product (omega arith) small
 
   -- and at most one below
-  pub by_reciprocal_near : hash < hash * inverse / 2 ^ 64 * count + 2 * count
-  by_reciprocal_near = one_short (2 ^ 64) count inverse ((2 ^ 64 - 1) % count) hash (hash * inverse / 2 ^ 64)
+  pub by-reciprocal-near : hash < hash * inverse / 2 ^ 64 * count + 2 * count
+  by-reciprocal-near = one-short (2 ^ 64) count inverse ((2 ^ 64 - 1) % count) hash (hash * inverse / 2 ^ 64)
       (hash * inverse % 2 ^ 64) reciprocal (omega arith) product (omega arith) small
 
 -- a rest below the count is the remainder
-pub rest_is : (hash count quotient rest : ℕ) → hash ≡ quotient * count + rest → rest < count →
+pub rest-is : (hash count quotient rest : ℕ) → hash ≡ quotient * count + rest → rest < count →
     rest ≡ hash % count
-rest_is hash count quotient rest e l = rw e (sym (mod-mul-add quotient count rest l))
+rest-is hash count quotient rest e l = rw e (sym (mod-mul-add quotient count rest l))

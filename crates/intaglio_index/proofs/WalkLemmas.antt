@@ -3,7 +3,7 @@ use Rattle.std.proofs.Common.{◌≡◌, ℕ, ◌<◌, List, [], ◌∷◌, ◌+
 use Rattle.std.specs.List.{IsDistinct}
 use Rattle.intaglio_index.proofs.Names.{eq-eqb, HasPassed, IsAt, Placed, head_of, symbols_of}
 use Rattle.intaglio_index.specs.Placed.{chain}
-use Rattle.intaglio_index.proofs.ChainLemmas.{chain-distinct, chain-entry, symbol_at, Each-append}
+use Rattle.intaglio_index.proofs.ChainLemmas.{chain-distinct, chain-entry, symbol-at, Each-append}
 
 -- what is left of a path at a candidate
 abbrev pub rest_of : List (ℕ × ℕ) → Option (ℕ × ℕ) → List (ℕ × ℕ)
@@ -23,7 +23,7 @@ unfolding IsDistinct
 rest_of-split seen [] d = rest_of-none (seen ++ [])
 rest_of-split [] (e ∷ behind) d = rw (eq-eqb e.0 e.0 refl) refl
 rest_of-split (x ∷ seen) (e ∷ behind) d =
-    rw (symbol_at (λ s. eqb x.0 s ≡ false) seen e behind d.0) (rest_of-split seen (e ∷ behind) d.1)
+    rw (symbol-at (λ s. eqb x.0 s ≡ false) seen e behind d.0) (rest_of-split seen (e ∷ behind) d.1)
 
 -- if no symbol of a path occurs twice and the candidate is the head of a rest, that rest is left at it
 pub rest_of-at : (path seen rest : List (ℕ × ℕ)) (candidate : Option (ℕ × ℕ)) → path ≡ seen ++ rest →
@@ -68,10 +68,10 @@ module _ {h : ℕ} {path : List (ℕ × ℕ)} where
       )
 
   -- and then that is the last symbol before the next candidate
-  pub goes_on : {last : Option ℕ} {s k : ℕ} {next : Option (ℕ × ℕ)} → IsAt h path last (Some (s, k)) → k < h →
+  pub goes-on : {last : Option ℕ} {s k : ℕ} {next : Option (ℕ × ℕ)} → IsAt h path last (Some (s, k)) → k < h →
       ((before behind : List (ℕ × ℕ)) → path ≡ before ++ (s, k) ∷ behind → next ≡ head_of behind) →
       IsAt h path (Some s) next
-  goes_on {k = k} at l after = let on = moves at.walk l after in
+  goes-on {k = k} at l after = let on = moves at.walk l after in
       record { walk = on.0; last_is = (at.walk.front, k, on.1) }
 
 module _ (v : Placed) (b : ℕ) where

@@ -2,7 +2,7 @@
 use Rattle.intaglio_interner.proofs.Names.{common_steps, ◌≡◌, ◌≢◌, ℕ, suc, ◌+◌, ◌*◌, ◌<◌, ◌≤◌, Bool, true, false, List, [], ◌∷◌, ◌++◌, length, map, All, Option, Some, None, Ok, Err, Result, alloc_error, MatchOption, inl, inr, refl, ap, arith, cases_eq, All-cons, Key, IsAddedOne, Event, placed, State, first, IsAdded, IsRefused, hashed_keys, placed_count, SearchCost, IsAddingCost, Step, StepCost, RunsValues, KeepsContents, HonoursRoom, searched_keys, InternError, Call, Intern, Reply, HasNoLessRoom, KeepsRoom, Clear, Reserve, TakeBack, length-map, ◌∙◌, sym, unwrap_or, is_some, cond, issued, interned, issue_from, issue, IsRefusal}
 use Rattle.intaglio_interner.proofs.InOrder.{hashed_keys-append}
 use Rattle.intaglio_interner.proofs.Room.{IsKept, same-kept, fails-kept, added-length, interns-sizes}
-use Rattle.intaglio_interner.proofs.LookUps.{look_up-same, look_up-places, interns-as}
+use Rattle.intaglio_interner.proofs.LookUps.{look-up-same, look-up-places, interns-as}
 use Rattle.intaglio_interner.proofs.Bytes.{intern-spare}
 use Rattle.intaglio_interner.proofs.Issue.{added-as, shows-key}
 use Rattle.intaglio_symbol.specs.declared.error.InternError.TheVariants as error
@@ -102,8 +102,8 @@ module _ {C Q : Type 0} (key : C → Key) (value_key : Q → Key) (spelling : C 
       (error.Memory alloc_error) made) cost.0.placements h
   call-goes old next (Intern q) _ now g keep made cost h = absurd made
   call-goes old next call r now g keep made cost h =
-      kept (same-kept old next (look_up-same key value_key spelling adds copies old next call r keep made))
-      (look_up-places key value_key spelling adds copies hash old next call r now keep cost) h
+      kept (same-kept old next (look-up-same key value_key spelling adds copies old next call r keep made))
+      (look-up-places key value_key spelling adds copies hash old next call r now keep cost) h
 
   -- placements and contents before are at most three times the contents after
   places : (old new : State C) (calls : List (Call Q)) (replies : List Reply) (cost : List Event) (g : ℕ) →
@@ -158,7 +158,7 @@ module _ {C Q : Type 0} (key : C → Key) (value_key : Q → Key) (spelling : C 
       rw (made (record { private = tt })).1 (omega arith)
   call-roomier old next (TakeBack n) _ keep made = grind (arith, common_steps)
   call-roomier old next call r keep made =
-      rw (look_up-same key value_key spelling adds copies old next call r keep made) (omega arith)
+      rw (look-up-same key value_key spelling adds copies old next call r keep made) (omega arith)
 
   -- capacity doesn't fall over a run that shrinks nothing
   pub Runs-roomier : (old new : State C) (calls : List (Call Q)) (replies : List Reply)

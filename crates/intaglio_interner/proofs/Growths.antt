@@ -2,7 +2,7 @@
 use Rattle.intaglio_interner.proofs.Names.{common_steps, ◌≡◌, ◌≢◌, ℕ, suc, ◌+◌, ◌*◌, ◌^◌, ◌≤◌, max, Bool, List, [], ◌∷◌, ◌++◌, length, All, inl, inr, refl, arith, cases_eq, ne_eqb, Key, IsAddedOne, State, Step, KeepsContents, KeepsRoom, Room, changes, bytes_of, CallGrows, RunsGrowing, GrowsSeldom, Call, Intern, ShrinkToFit, Reply}
 use Rattle.std.proofs.Math.Nat.{mul-le-mul_left, mul_assoc, pow-suc}
 use Rattle.intaglio_interner.proofs.Room.{added-length}
-use Rattle.intaglio_interner.proofs.LookUps.{look_up-same, intern-either}
+use Rattle.intaglio_interner.proofs.LookUps.{look-up-same, intern-either}
 
 -- a number that at least doubles where it changes, and then doubles so often
 doubled : (g i x y z : ℕ) → g ≡ changes x y + i → (y ≢ x → 2 * max 1 x ≤ max 1 y) →
@@ -107,4 +107,4 @@ module _ {C Q : Type 0} {key : C → Key} {value_key : Q → Key} (spelling : C 
         added-length copies (one q) old next,
       )
   call-size old next call r keep made =
-      rw (look_up-same key value_key spelling adds copies old next call r keep made) (omega arith)
+      rw (look-up-same key value_key spelling adds copies old next call r keep made) (omega arith)

@@ -12,20 +12,20 @@ LooksUp call = KeepsContents call
 module _ {C Q : Type 0} (key : C → Key) (value_key : Q → Key) (spelling : C → List ℕ) (adds : Q → List C →
     List C → Type 0) (copies : Bool) where
   -- a look-up changes nothing
-  pub look_up-same : (old new : State C) (call : Call Q) (r : Reply) → LooksUp call →
+  pub look-up-same : (old new : State C) (call : Call Q) (r : Reply) → LooksUp call →
       Step key value_key spelling adds copies old call r new → new ≡ old
-  look_up-same old new (Check q) (reply.Symbol x) looks step = step.1
-  look_up-same old new (IsInterned q) (reply.Bool x) looks step = step.1
-  look_up-same old new (Contains s) (reply.Bool x) looks step = step.1
-  look_up-same old new Len (reply.Count x) looks step = step.1
-  look_up-same old new IsEmpty (reply.Bool x) looks step = step.1
-  look_up-same old new _ _ looks step = grind (arith, common_steps)
+  look-up-same old new (Check q) (reply.Symbol x) looks step = step.1
+  look-up-same old new (IsInterned q) (reply.Bool x) looks step = step.1
+  look-up-same old new (Contains s) (reply.Bool x) looks step = step.1
+  look-up-same old new Len (reply.Count x) looks step = step.1
+  look-up-same old new IsEmpty (reply.Bool x) looks step = step.1
+  look-up-same old new _ _ looks step = grind (arith, common_steps)
 
   -- and places nothing
-  pub look_up-places : (hash : Key → ℕ) (old new : State C) (call : Call Q) (r : Reply) (now : List Event) →
+  pub look-up-places : (hash : Key → ℕ) (old new : State C) (call : Call Q) (r : Reply) (now : List Event) →
       LooksUp call → StepCost key value_key hash old call r new now → placed_count now ≡ 0
-  look_up-places hash old new (Check q) r now looks cost = cost.0.placements
-  look_up-places hash old new _ r now looks cost = grind (arith, common_steps)
+  look-up-places hash old new (Check q) r now looks cost = cost.0.placements
+  look-up-places hash old new _ r now looks cost = grind (arith, common_steps)
 
   -- an interning by its result
   pub interns-as : (old new : State C) (q : Q) (r : Reply) →

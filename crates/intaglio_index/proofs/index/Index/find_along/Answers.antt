@@ -1,14 +1,14 @@
 -- Hashes don't decrease along a bucket. So at a greater hash, or at the end, no symbol has the sought one
--- (`ends`), and then none at all has (`absent_on`).
+-- (`ends`), and then none at all has (`absent-on`).
 use Rattle.std.proofs.Common.{◌<◌, arith}
-use Rattle.intaglio_index.proofs.ChainLemmas.{chain-in_order}
-use Rattle.intaglio_index.proofs.SearchLemmas.{absent_on, ends, passes, finds, goes_on}
+use Rattle.intaglio_index.proofs.ChainLemmas.{chain-in-order}
+use Rattle.intaglio_index.proofs.SearchLemmas.{absent-on, ends, passes, finds, goes-on}
 use Rattle.intaglio_index.proofs.WalkLemmas.{within, falls}
 use Rattle.intaglio_index.proofs.index.Index.find_along.Goals as goal
 
 pub returns-then-hash-found-clause-none : goal.returns-then-hash-found-clause-none
 returns-then-hash-found-clause-none c =
-    λ e. absent_on _ _ (ends c.loop-candidate.invariant.reached.1 (chain-in_order _ _)
+    λ e. absent-on _ _ (ends c.loop-candidate.invariant.reached.1 (chain-in-order _ _)
     (rw c.in-Some.is c.if-hash-found.true))
 
 pub returns-then-hash-found-clause-passed : goal.returns-then-hash-found-clause-passed
@@ -35,17 +35,17 @@ loop-candidate-preserved c =
     record {
       reached = (
         c.loop-candidate.invariant.reached.0,
-        goes_on (rw c.in-Some.is at c.loop-candidate.invariant.reached.1)
+        goes-on (rw c.in-Some.is at c.loop-candidate.invariant.reached.1)
             l c.step.ensures (c.next_entry-candidate.ensures.next _ _),
       );
-      since = λ start from. goes_on
+      since = λ start from. goes-on
           (rw c.in-Some.is at (c.loop-candidate.invariant.since start from)) l c.step.ensures
           (c.next_entry-candidate.ensures.next _ _);
     }
 
 pub returns-clause-none : goal.returns-clause-none
 returns-clause-none c =
-    λ e. absent_on _ _ (ends c.loop-candidate.invariant.reached.1 (chain-in_order _ _)
+    λ e. absent-on _ _ (ends c.loop-candidate.invariant.reached.1 (chain-in-order _ _)
     (rw c.in_default.is tt))
 
 pub returns-clause-passed : goal.returns-clause-passed

@@ -1,20 +1,20 @@
 -- Both words are those of smaller hashes, so after three steps the search is at the third symbol
--- (`begins_third`), and goes on along the bucket.
+-- (`begins-third`), and goes on along the bucket.
 use Rattle.std.proofs.Common.{◌≡◌, List, ◌∷◌, [], ◌++◌, ◌%◌}
 use Rattle.intaglio_index.proofs.Names.{Event, step, IsReached}
 use Rattle.intaglio_index.specs.Placed.{chain}
-use Rattle.intaglio_index.proofs.SearchLemmas.{begins_third, second_placed, three_steps, each_some}
+use Rattle.intaglio_index.proofs.SearchLemmas.{begins-third, second-placed, three-steps, each-some}
 use Rattle.intaglio_index.proofs.index.Index.find_behind.Goals as goal
 use Rattle.intaglio_index.proofs.index.Index.find_behind.Goals.{After-next_entry}
 
 pub next_entry-requires : goal.next_entry-requires
-next_entry-requires c = second_placed _ _ c.requires.behind
+next_entry-requires c = second-placed _ _ c.requires.behind
 
 reached : (c : After-next_entry) (start : List Event) → c.args.work.now.events ≡ start ++ step ∷ [] →
     IsReached c.args.hash (chain c.args.self.now (c.args.hash % c.args.self.now.count)) start
     c.step-2.new.self.events c.next_entry.result
-reached c start begun = begins_third c.requires.behind (c.next_entry.ensures.next _ _)
-    (three_steps _ begun c.step.ensures c.step-2.ensures)
+reached c start begun = begins-third c.requires.behind (c.next_entry.ensures.next _ _)
+    (three-steps _ begun c.step.ensures c.step-2.ensures)
 
 pub find_along-requires : goal.find_along-requires
 find_along-requires c = (
@@ -23,7 +23,7 @@ find_along-requires c = (
 )
 
 pub returns-clause-found : goal.returns-clause-found
-returns-clause-found c = each_some _ _ c.find_along.result
+returns-clause-found c = each-some _ _ c.find_along.result
     (λ s f start begun. f start (reached (goal.at.returns-clause-found c).After-next_entry start begun))
     c.find_along.ensures.found
 

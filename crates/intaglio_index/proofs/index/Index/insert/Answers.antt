@@ -1,10 +1,10 @@
--- A filter of 0 says that the bucket is empty (`is_vacant`). Then the symbol is alone in it: both words are
--- its own (`head_alone`), and its link leads to itself (`place_first`).
+-- A filter of 0 says that the bucket is empty (`is-vacant`). Then the symbol is alone in it: both words are
+-- its own (`head-alone`), and its link leads to itself (`place-first`).
 use Rattle.std.proofs.Common.{◌≡◌, ◌<◌, ◌%◌, [], length, arith, ◌∙◌, ap, refl, None}
 use Rattle.intaglio_index.proofs.Names.{chain_from}
 use Rattle.intaglio_index.specs.Placed.{chain}
-use Rattle.intaglio_index.proofs.HeadLemmas.{is_vacant, head_alone, holds_pushed}
-use Rattle.intaglio_index.proofs.LinkLemmas.{place_first}
+use Rattle.intaglio_index.proofs.HeadLemmas.{is-vacant, head-alone, holds-pushed}
+use Rattle.intaglio_index.proofs.LinkLemmas.{place-first}
 use Rattle.intaglio_index.proofs.index.Index.insert.Goals as goal
 
 pub invariant_of-self : goal.invariant_of-self
@@ -19,10 +19,10 @@ invariant_of-self c =
     omega (arith, free) in
     let empty : chain_from (length c.self.inside.heads.items) (c.args.hash % length c.self.inside.heads.items)
     0 [] c.self.inside.hashes.items ≡ [] =
-    is_vacant {room = 0} refl c.self.invariant _ _ within (rw at at c.index-filter.ensures) c.if-filter-ne0.false in
+    is-vacant {room = 0} refl c.self.invariant _ _ within (rw at at c.index-filter.ensures) c.if-filter-ne0.false in
     rw (c.push_reserved.ensures.items, c.push_reserved-2.ensures.items, at)
-    (holds_pushed c.self.invariant c.args.hash _ _ within (rw at at c.index-filter.ensures)
+    (holds-pushed c.self.invariant c.args.hash _ _ within (rw at at c.index-filter.ensures)
     c.marked.ensures.set c.marked.ensures.kept
-    (head_alone _ _ c.args.hash _ (c.word-word.ensures.word.0, c.word-word.ensures.word.1 ∙ number) _ empty)
-    (place_first c.self.invariant.linked c.args.hash c.args.symbol number c.word-word.ensures.number free None
+    (head-alone _ _ c.args.hash _ (c.word-word.ensures.word.0, c.word-word.ensures.word.1 ∙ number) _ empty)
+    (place-first c.self.invariant.linked c.args.hash c.args.symbol number c.word-word.ensures.number free None
     (rw empty refl) (rw empty tt)))

@@ -1,5 +1,5 @@
 -- A candidate is a placed symbol (`within`). Each step leaves less of the bucket (`falls`).
-use Rattle.intaglio_index.proofs.WalkLemmas.{within, falls, goes_on}
+use Rattle.intaglio_index.proofs.WalkLemmas.{within, falls, goes-on}
 use Rattle.intaglio_index.proofs.index.Index.last_below.Goals as goal
 
 pub next_entry-candidate-requires : goal.next_entry-candidate-requires
@@ -12,5 +12,5 @@ loop-candidate-smaller c =
 
 pub loop-candidate-preserved : goal.loop-candidate-preserved
 loop-candidate-preserved c =
-    goes_on (rw c.in-Some.is at c.loop-candidate.invariant) c.if-hash-found.false
+    goes-on (rw c.in-Some.is at c.loop-candidate.invariant) c.if-hash-found.false
     (c.next_entry-candidate.ensures.next _ _)

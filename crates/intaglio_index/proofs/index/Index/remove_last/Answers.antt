@@ -1,82 +1,82 @@
--- If the last symbol has no predecessor, its bucket begins at its link then (`cut_first`). Otherwise the
--- predecessor takes over that link, and the bucket begins as before (`cut_behind`).
+-- If the last symbol has no predecessor, its bucket begins at its link then (`cut-first`). Otherwise the
+-- predecessor takes over that link, and the bucket begins as before (`cut-behind`).
 use Rattle.std.proofs.Common.{◌≡◌, ℕ, ◌%◌, ◌+◌, ◌-◌, [], length, arith, ◌∙◌, sym, Some, ap}
 use Rattle.intaglio_index.proofs.Names.{Placed, chain_from, first_symbol_of, next_of}
 use Rattle.intaglio_index.specs.Placed.{chain}
-use Rattle.intaglio_index.proofs.HeadLemmas.{IsOccupied, count_is, numbered, is_occupied_by, never_behind, first_within, leads, nil_leader, holds_vacated, holds_read}
-use Rattle.intaglio_index.proofs.LinkLemmas.{cut_first, cut_behind, predecessor_below, thread_of}
+use Rattle.intaglio_index.proofs.HeadLemmas.{IsOccupied, count-is, numbered, is-occupied-by, never-behind, first-within, leads, nil-leader, holds-vacated, holds-read}
+use Rattle.intaglio_index.proofs.LinkLemmas.{cut-first, cut-behind, predecessor-below, thread-of}
 use Rattle.intaglio_index.proofs.index.Index.remove_last.Goals as goal
 use Rattle.intaglio_index.proofs.index.Index.remove_last.Goals.{After-predecessor-before, After-index}
 
-last_is : (c : After-predecessor-before) → (c.placed-last.result - 1) + 1 ≡ length c.self.inside.hashes.items
-last_is c = omega (arith, ap (λ (v : Placed). length v.hashes) c.self.view_is, c.placed-last.ensures, c.requires)
+last-is : (c : After-predecessor-before) → (c.placed-last.result - 1) + 1 ≡ length c.self.inside.hashes.items
+last-is c = omega (arith, ap (λ (v : Placed). length v.hashes) c.self.view_is, c.placed-last.ensures, c.requires)
 
-at_bucket : (c : After-predecessor-before) →
+at-bucket : (c : After-predecessor-before) →
     c.bucket-bucket.result ≡ c.index-hash.result.now % length c.self.inside.heads.items
-at_bucket c = c.bucket-bucket.ensures ∙ ap (λ n. c.index-hash.result.now % n) c.self.invariant.counted
+at-bucket c = c.bucket-bucket.ensures ∙ ap (λ n. c.index-hash.result.now % n) c.self.invariant.counted
 
-next_is : (c : After-predecessor-before) →
+next-is : (c : After-predecessor-before) →
     c.next-behind.result ≡ next_of c.self.inside.links.items (c.placed-last.result - 1)
-next_is c = rw (c.deref.ensures.value, c.new.ensures) at c.next-behind.ensures
+next-is c = rw (c.deref.ensures.value, c.new.ensures) at c.next-behind.ensures
 
 pub invariant_of-self : goal.invariant_of-self
 unfolding chain
 invariant_of-self c =
     let all = (goal.at.invariant_of-self c).After-predecessor-before in
-    let cut = cut_first c.self.invariant.linked _ _ (last_is all) c.index-hash.ensures _ (next_is all)
+    let cut = cut-first c.self.invariant.linked _ _ (last-is all) c.index-hash.ensures _ (next-is all)
     (rw (← c.self.view_is) at c.in-None.ensures) in
-    rw (c.truncate.ensures.items, c.truncate-2.ensures.items, at_bucket all)
-    (holds_vacated c.self.invariant _ _ (last_is all) c.index-hash.ensures _ cut.0
-    (nil_leader _ (sym c.in-None-behind.is ∙ cut.1)))
+    rw (c.truncate.ensures.items, c.truncate-2.ensures.items, at-bucket all)
+    (holds-vacated c.self.invariant _ _ (last-is all) c.index-hash.ensures _ cut.0
+    (nil-leader _ (sym c.in-None-behind.is ∙ cut.1)))
 
 pub read-requires-clause-linked : goal.read-requires-clause-linked
 unfolding chain
 read-requires-clause-linked c =
     let all = (goal.at.read-requires-clause-linked c).After-predecessor-before in
-    let cut = cut_first c.self.invariant.linked _ _ (last_is all) c.index-hash.ensures _ (next_is all)
+    let cut = cut-first c.self.invariant.linked _ _ (last-is all) c.index-hash.ensures _ (next-is all)
     (rw (← c.self.view_is) at c.in-None.ensures) in
     rw (c.deref-in-Some-behind.ensures.value, c.deref-in-Some-behind-2.ensures.value)
     (rw (c.truncate.ensures.items, c.truncate-2.ensures.items)
-    (_, thread_of cut.0 _ _ (sym c.in-Some-behind.is ∙ cut.1)))
+    (_, thread-of cut.0 _ _ (sym c.in-Some-behind.is ∙ cut.1)))
 
 pub invariant_of-self-in-Some-behind : goal.invariant_of-self-in-Some-behind
 unfolding chain
 invariant_of-self-in-Some-behind c =
     let all = (goal.at.invariant_of-self-in-Some-behind c).After-predecessor-before in
-    let cut = cut_first c.self.invariant.linked _ _ (last_is all) c.index-hash.ensures _ (next_is all)
+    let cut = cut-first c.self.invariant.linked _ _ (last-is all) c.index-hash.ensures _ (next-is all)
     (rw (← c.self.view_is) at c.in-None.ensures) in
     let leads = sym c.in-Some-behind.is ∙ cut.1 in
     let head = rw (c.deref-in-Some-behind.ensures.value, c.deref-in-Some-behind-2.ensures.value) at c.read.ensures in
     let same = rw (c.truncate.ensures.items, c.truncate-2.ensures.items) at head in
-    rw (c.truncate.ensures.items, c.truncate-2.ensures.items, at_bucket all)
-    (holds_read c.self.invariant _ _ (last_is all) c.index-hash.ensures _ _ _ cut.0 leads
-    (same _ (thread_of cut.0 _ _ leads)))
+    rw (c.truncate.ensures.items, c.truncate-2.ensures.items, at-bucket all)
+    (holds-read c.self.invariant _ _ (last-is all) c.index-hash.ensures _ _ _ cut.0 leads
+    (same _ (thread-of cut.0 _ _ leads)))
 
 -- the bucket has a symbol in front of the last one
 occupied : (c : After-index) → IsOccupied c.args.self.now (c.index-hash.result.now % c.args.self.now.count)
     (c.self.inside.modulus.mask + 1) c.index.result.now
 occupied c =
-    let count = count_is c.self.view_is c.self.invariant in
+    let count = count-is c.self.view_is c.self.invariant in
     let at = c.bucket-bucket.ensures
     ∙ ap (λ n. c.index-hash.result.now % n) (c.self.invariant.counted ∙ sym count) in
-    is_occupied_by c.self.view_is c.self.invariant _ _
+    is-occupied-by c.self.view_is c.self.invariant _ _
     (omega (arith, ap (λ (v : Placed). length v.hashes) c.self.view_is, c.requires, c.self.invariant.linked.few, count))
-    (rw at at c.index.ensures) (λ none. never_behind _ _ _ none c.in-Some.ensures)
+    (rw at at c.index.ensures) (λ none. never-behind _ _ _ none c.in-Some.ensures)
 
 pub symbol-first-requires-clause-number : goal.symbol-first-requires-clause-number
 symbol-first-requires-clause-number c =
     omega (
       arith,
-      first_within (occupied (goal.at.symbol-first-requires-clause-number c).After-index),
+      first-within (occupied (goal.at.symbol-first-requires-clause-number c).After-index),
       numbered c.self.view_is c.self.invariant,
     )
 
 pub index_mut-requires-in-Some : goal.index_mut-requires-in-Some
 unfolding chain
 index_mut-requires-in-Some c =
-    let last = last_is (goal.at.index_mut-requires-in-Some c).After-predecessor-before in
+    let last = last-is (goal.at.index_mut-requires-in-Some c).After-predecessor-before in
     let below =
-    predecessor_below c.self.invariant.linked _ _ last c.index-hash.ensures _ (rw (← c.self.view_is) at c.in-Some.ensures) in
+    predecessor-below c.self.invariant.linked _ _ last c.index-hash.ensures _ (rw (← c.self.view_is) at c.in-Some.ensures) in
     omega (arith, below, c.id.ensures, c.truncate-2.ensures.len, c.self.inside.links.ok.0, c.self.invariant.linked.paired, last)
 
 -- the bucket still begins with the same symbol
@@ -90,23 +90,23 @@ pub read-requires-in-Some-clause-linked : goal.read-requires-in-Some-clause-link
 unfolding chain
 read-requires-in-Some-clause-linked c =
     let all = (goal.at.read-requires-in-Some-clause-linked c).After-predecessor-before in
-    let cut = cut_behind c.self.invariant.linked _ _ (last_is all) c.index-hash.ensures _ (next_is all) _
+    let cut = cut-behind c.self.invariant.linked _ _ (last-is all) c.index-hash.ensures _ (next-is all) _
     (rw (← c.self.view_is) at c.in-Some.ensures) in
     let first = led (goal.at.read-requires-in-Some-clause-linked c).After-index _ c.symbol-first.ensures in
     rw (c.deref-in-Some.ensures.value, c.deref-in-Some-2.ensures.value, c.truncate.ensures.items)
     (rw (c.truncate-2.ensures.items, c.unwrap_or.ensures, c.id.ensures)
-    (_, thread_of cut.0 _ _ (first ∙ sym cut.1)))
+    (_, thread-of cut.0 _ _ (first ∙ sym cut.1)))
 
 pub invariant_of-self-in-Some : goal.invariant_of-self-in-Some
 unfolding chain
 invariant_of-self-in-Some c =
     let all = (goal.at.invariant_of-self-in-Some c).After-predecessor-before in
-    let cut = cut_behind c.self.invariant.linked _ _ (last_is all) c.index-hash.ensures _ (next_is all) _
+    let cut = cut-behind c.self.invariant.linked _ _ (last-is all) c.index-hash.ensures _ (next-is all) _
     (rw (← c.self.view_is) at c.in-Some.ensures) in
     let leads = led (goal.at.invariant_of-self-in-Some c).After-index _ c.symbol-first.ensures ∙ sym cut.1 in
     let head = rw (c.deref-in-Some.ensures.value, c.deref-in-Some-2.ensures.value) at c.read-in-Some.ensures in
     let same = rw (c.truncate.ensures.items, c.truncate-2.ensures.items, c.unwrap_or.ensures, c.id.ensures) at head in
     rw (c.truncate.ensures.items, c.truncate-2.ensures.items)
-    (rw (c.unwrap_or.ensures, c.id.ensures, at_bucket all)
-    (holds_read c.self.invariant _ _ (last_is all) c.index-hash.ensures _ _ _ cut.0 leads
-    (same _ (thread_of cut.0 _ _ leads))))
+    (rw (c.unwrap_or.ensures, c.id.ensures, at-bucket all)
+    (holds-read c.self.invariant _ _ (last-is all) c.index-hash.ensures _ _ _ cut.0 leads
+    (same _ (thread-of cut.0 _ _ leads))))

@@ -1,6 +1,6 @@
 -- The search gives each number with the hash once (`equal-hashes`), and keys are distinct. So the first one
 -- with the key is the only one (`finds`), and if none is left, no string has the key (`ends`).
-use Rattle.intaglio_packed.proofs.Names.{common_steps, length-map, slice_get-map, slice_get_within, Key, IsLeft, hashes_of, strings_of, IsSearching, compared-as, ends, finds, goes_on, none_passed}
+use Rattle.intaglio_packed.proofs.Names.{common_steps, length-map, slice_get-map, slice_get_within, Key, IsLeft, hashes_of, strings_of, IsSearching, compared-as, ends, finds, goes-on, none-passed}
 use Rattle.std.proofs.Common.{◌≡◌, ◌<◌, ℕ, List, ◌∷◌, length, map, sym, refl, arith, ◌∙◌, Some, None, true}
 use Rattle.std.proofs.lemmas.Simd.{map-map}
 use Rattle.intaglio_content.specs.Store.{IsCompared}
@@ -55,7 +55,7 @@ met g c later is h by =
     let equal = equal-hashes h keys k c.args.list.now.list c.args.hash at.0 (by.stored
     ∙ sym (map-map h g.K.StringKind.key_of strings)) by.sought at.2 in
     finds h keys k c.requires.distinct at.0 equal 0 c.args.self.now.places
-    (none_passed h keys k c.requires.distinct at.0 equal c.args.self.now.places) c.in-Some.found.0 turn.0 _
+    (none-passed h keys k c.requires.distinct at.0 equal c.args.self.now.places) c.in-Some.found.0 turn.0 _
     _ _ turn.2 (seen.1 refl) seen.0
 
 -- none is left
@@ -75,7 +75,7 @@ ended g c h by =
     let equal = equal-hashes h keys k c.args.list.now.list c.args.hash at.0 (by.stored
     ∙ sym (map-map h g.K.StringKind.key_of strings)) by.sought at.2 in
     ends h keys k c.requires.distinct at.0 equal 0 c.args.self.now.places
-    (none_passed h keys k c.requires.distinct at.0 equal c.args.self.now.places) _ _ (rw none.0 at at.4)
+    (none-passed h keys k c.requires.distinct at.0 equal c.args.self.now.places) _ _ (rw none.0 at at.4)
 
 pub same_at-requires-clause-there : goal.same_at-requires-clause-there
 same_at-requires-clause-there g c = (next-in g (goal.at.same_at-requires-clause-there g c).In-Some).3
@@ -110,7 +110,7 @@ loop-found-preserved g c =
       turn.0,
       at.2,
       turn.1,
-      goes_on _ _ 0 at.0 turn.0 c.in-Some.found.0 _ _ _ _ turn.2 (seen.2 refl) seen.0
+      goes-on _ _ 0 at.0 turn.0 c.in-Some.found.0 _ _ _ _ turn.2 (seen.2 refl) seen.0
           c.step-in-Some.ensures,
     )
 

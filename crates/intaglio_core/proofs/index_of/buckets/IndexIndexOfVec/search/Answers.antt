@@ -2,7 +2,7 @@
 -- compared each content that can have the key (`ends`), and a hit is the only one that has it (`finds`).
 use Rattle.intaglio_core.proofs.Names.{common_steps, ◌≡◌, None, Option, Some, slice_get, arith, rules}
 use Rattle.std.specs.Option.{IfSome}
-use Rattle.intaglio_core.proofs.Walking.{passes, begins, within, ends, finds, goes_on, falls}
+use Rattle.intaglio_core.proofs.Walking.{passes, begins, within, ends, finds, goes-on, falls}
 use Rattle.intaglio_core.proofs.index_of.buckets.IndexIndexOfVec.search.Goals as goal
 
 any-read : {X : Type 0} (o : Option X) → IfSome o (λ _. Unit {0})
@@ -46,7 +46,7 @@ loop-candidate-smaller g c = grind (arith, common_steps, falls)
 pub loop-candidate-preserved : goal.loop-candidate-preserved
 loop-candidate-preserved g c = record {
   walking =
-      λ h by. goes_on by.stored c.in-Some.symbol _ _ _
+      λ h by. goes-on by.stored c.in-Some.symbol _ _ _
       (rw c.in-Some.is at (c.loop-candidate.invariant.walking h by)) (rw c.id.ensures at c.if-same_at.ensures)
       c.find_next-candidate.ensures.events c.find_next-candidate.ensures.next;
 }
