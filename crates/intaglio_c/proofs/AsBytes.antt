@@ -1,5 +1,6 @@
--- What a change of a table is to the bytes of its contents.
-use Rattle.intaglio_c.proofs.Names.{◌≡◌, ◌<◌, ◌∷◌, ◌++◌, common_steps, ℕ, inl, inr, Bool, true, false, List, [], map, refl, sym, ap, subst, ◌∙◌, arith, Option, Some, None, MatchOption, Result, Ok, Err, take-map, length-map, map-append, State, Table, first, first_of, AddsNew, InternsValue, IsOutOfMemory, IsRefused, fault, HasKey, key, IsFaultless, Seen, as_bytes, seen_of, position, look_up, unless, IsChangedBy, InternsBy, InternsNew, KeyedState, Kind, Refusal, Key, InternError, Overflow, Memory, symbol_answer, found}
+-- If each content has the key of its bytes, then what the interner finds, adds or refuses by contents, it
+-- finds, adds or refuses by their bytes.
+use Rattle.intaglio_c.proofs.Names.{◌≡◌, ◌<◌, ◌∷◌, ◌++◌, ℕ, inl, inr, Bool, true, false, List, [], map, refl, sym, ap, subst, ◌∙◌, arith, Option, Some, None, MatchOption, Result, Ok, Err, take-map, length-map, map-append, State, Table, first, first_of, AddsNew, InternsValue, IsOutOfMemory, IsRefused, fault, HasKey, key, IsFaultless, Seen, as_bytes, seen_of, position, look_up, unless, IsChangedBy, InternsBy, InternsNew, KeyedState, TableKind, Refusal, Key, InternError, Overflow, Memory, symbol_answer, found}
 use Rattle.intaglio_content.specs.Store.{IsMoved, IsPushed}
 use Rattle.intaglio_c.proofs.Faults.{untested}
 
@@ -61,12 +62,12 @@ module _ {C : Type 0} (bytes : C → List ℕ) where
   moved c cs b is cs' grown = ap (map bytes) grown ∙ map-append bytes cs (c ∷ [])
       ∙ ap (λ (x : List ℕ). map bytes cs ++ x ∷ []) is
 
-  pub pushed : (content_key : C → Key) (k : Key) (w : List ℕ) (cs : List C) (b : List ℕ) → w ≡ b →
+  pub pushed : (content_key : C → Key) (k : Key) (cs : List C) (b w : List ℕ) → w ≡ b →
       Adds (IsPushed content_key bytes k w) cs b
-  pushed content_key k w cs b is cs' one = moved one.copy cs b (one.same_spelling ∙ is) cs' one.added
+  pushed content_key k cs b w is cs' one = moved one.copy cs b (one.same_spelling ∙ is) cs' one.added
 
 -- a kind whose contents have their bytes' keys
-module _ {C : Type 0} (kind : Kind) (bytes : C → List ℕ) (content_key : C → Key) (same : (c : C) →
+module _ {C : Type 0} (kind : TableKind) (bytes : C → List ℕ) (content_key : C → Key) (same : (c : C) →
     content_key c ≡ key kind (bytes c)) where
   keys : (cs : List C) → map content_key cs ≡ map (key kind) (map bytes cs)
   keys [] = refl
@@ -78,24 +79,23 @@ module _ {C : Type 0} (kind : Kind) (bytes : C → List ℕ) (content_key : C �
       ∙ ap (first (key kind) (map bytes cs)) spelled
 
   -- a look-up
-  pub finds : (old : Seen) (held : State C) (h : KeyedState) (b : List ℕ) (sought : Key) (result : Option ℕ) →
-      old ≡ seen_of kind bytes held h → HasKey kind b → sought ≡ key kind b →
+  pub finds : (old : Seen) (held : State C) (h : KeyedState) → old ≡ seen_of kind bytes held h →
+      (b : List ℕ) (sought : Key) (result : Option ℕ) → HasKey kind b → sought ≡ key kind b →
       result ≡ first content_key held.contents sought
       → IsFaultless old → result ≡ found (look_up old b)
-  finds old held h b sought result is some spelled answer faultless =
+  finds old held h is b sought result some spelled answer faultless =
       answer ∙ place held.contents b sought spelled ∙ sym (ap (λ (x : Seen). position x b) is)
       ∙ untested old b faultless (subst (λ (x : Seen). HasKey x.kind b) (sym is) some)
 
   -- an interning
-  pub interned : (copies : Kind → Bool) (adds : List C → List C → Type 0) (old : Seen) (held : State C)
-      (h : KeyedState) (t' : Table C KeyedState) (b : List ℕ) (k : Key) (result : Result ℕ InternError)
-      (answer : Result ℕ Refusal)
-      → old ≡ seen_of kind bytes held h → t'.hasher ≡ h → fault old.kind b ≡ None → k ≡ key kind b →
-      Adds bytes adds held.contents b → InternsValue content_key adds (copies kind) held k result t'.state →
-      answer ≡ symbol_answer result
+  pub interned : (copies : TableKind → Bool) (old : Seen) (held : State C) (h : KeyedState) →
+      old ≡ seen_of kind bytes held h → (t' : Table C KeyedState) → t'.hasher ≡ h → (b : List ℕ) →
+      fault old.kind b ≡ None → (adds : List C → List C → Type 0) (k : Key) → k ≡ key kind b →
+      Adds bytes adds held.contents b → (result : Result ℕ InternError) (answer : Result ℕ Refusal) →
+      InternsValue content_key adds (copies kind) held k result t'.state → answer ≡ symbol_answer result
       → IsChangedBy old (seen_of kind bytes t'.state t'.hasher)
       (λ _ s'. InternsBy (copies old.kind) b old.state (look_up old b) answer s')
-  interned copies adds old held h t' b k result answer is hasher allowed spelled grows step answered =
+  interned copies old held h is t' hasher b allowed adds k spelled grows result answer step answered =
       subst (λ (x : Seen). fault x.kind b ≡ None → IsChangedBy x (seen_of kind bytes t'.state t'.hasher)
       (λ _ s'. InternsBy (copies x.kind) b x.state (look_up x b) answer s')) (sym is) (λ none. record {
         kind = refl;

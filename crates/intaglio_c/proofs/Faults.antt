@@ -1,16 +1,13 @@
--- Which bytes a kind doesn't take.
-use Rattle.intaglio_c.proofs.Names.{arith, common_steps, ◌≡◌, ◌∷◌, ◌++◌, ◌⊎◌, if◌then◌else◌, ◌==◌, ◌≢◌, ◌∙◌, Bool, ℕ, zero, suc, true, false, List, [], length, take, refl, sym, ap, cond, inl, inr, Option, Some, None, Result, Ok, Err, IsUtf8, is_some, get_or, none-some, TakesBack, interned, interned_all, State, first, StaleMark, Either, InternsOr, IsRolledBack, broken, earlier, fault, first_fault, HasKey, key, utf8_fault, Kind, Refusal, BadEnds, Full, NoMemory, NotUtf8, IsFaultless, AnyTable, fault_in, seen, Seen, look_up, position, unless, InternsBy, is_utf8, Absorbs, found, Owned, Path, Packed}
+-- Which bytes a kind doesn't take. No call brings such a string into a table, so a table has none that is
+-- equal to such bytes, and a look-up needn't test them.
+use Rattle.intaglio_c.proofs.Names.{arith, common_steps, ◌≡◌, ◌∷◌, ◌++◌, ◌==◌, ◌≢◌, ◌∙◌, Bool, ℕ, zero, suc, true, false, List, [], length, take, refl, sym, ap, cond, inl, inr, Option, Some, None, Result, Ok, Err, IsUtf8, is_some, get_or, none-some, TakesBack, interned, interned_all, State, first, StaleMark, Either, InternsOr, IsRolledBack, broken, earlier, fault, first_fault, HasKey, key, utf8_fault, TableKind, Refusal, BadEnds, Full, NoMemory, NotUtf8, IsFaultless, AnyTable, fault_in, seen, Seen, look_up, position, unless, IsChangedBy, InternsBy, Absorbs, found, Owned, Path, Packed}
 use Rattle.std.proofs.lemmas.Str.{IsUtf8-from_is_utf8, is_utf8-from_IsUtf8}
 use Rattle.intaglio_frozen.specs.Layout.{strings}
 use Rattle.intaglio_interner.proofs.First.{key_eq-unequal}
 
--- texts
-abbrev utf8_fault_by : Bool → Option Refusal
-utf8_fault_by valid = if valid then None else Some NotUtf8
-
 -- bytes that are UTF-8 have no fault as a text
 pub good-text : (bs : List ℕ) → IsUtf8 bs → utf8_fault bs ≡ None
-good-text bs good = ap utf8_fault_by (is_utf8-from_IsUtf8 bs good)
+good-text bs good = grind (arith, common_steps, is_utf8-from_IsUtf8 bs good)
 
 -- bytes that aren't UTF-8 have the fault `NotUtf8`
 pub bad-text : (bs : List ℕ) → ¬ (IsUtf8 bs) → utf8_fault bs ≡ Some NotUtf8
@@ -28,14 +25,14 @@ earlier-assoc None b c = refl
 earlier-assoc (Some r) b c = refl
 
 -- the first fault of a list and another behind it is that of the first, or else that of the second
-pub first_fault-append : (k : Kind) (xs ys : List (List ℕ)) →
+pub first_fault-append : (k : TableKind) (xs ys : List (List ℕ)) →
     first_fault k (xs ++ ys) ≡ earlier (first_fault k xs) (first_fault k ys)
 first_fault-append k [] ys = refl
 first_fault-append k (x ∷ xs) ys = ap (earlier (fault k x)) (first_fault-append k xs ys)
     ∙ sym (earlier-assoc (fault k x) (first_fault k xs) (first_fault k ys))
 
 -- strings without a fault have none when one more without a fault comes behind them
-pub one-more : (k : Kind) (xs : List (List ℕ)) (x : List ℕ) → first_fault k xs ≡ None → fault k x ≡ None →
+pub one-more : (k : TableKind) (xs : List (List ℕ)) (x : List ℕ) → first_fault k xs ≡ None → fault k x ≡ None →
     first_fault k (xs ++ x ∷ []) ≡ None
 one-more k xs x none last = first_fault-append k xs (x ∷ []) ∙ (λ i. earlier (none i) (earlier (last i) None))
 
@@ -45,7 +42,7 @@ neither None b none = (refl, none)
 neither (Some r) b some = absurd (none-some r (sym some))
 
 -- if strings have no fault, the first n of them have none
-pub first-ones : (k : Kind) (n : ℕ) (xs : List (List ℕ)) → first_fault k xs ≡ None →
+pub first-ones : (k : TableKind) (n : ℕ) (xs : List (List ℕ)) → first_fault k xs ≡ None →
     first_fault k (take n xs) ≡ None
 first-ones k zero xs none = refl
 first-ones k (suc n) [] none = refl
@@ -53,7 +50,7 @@ first-ones k (suc n) (x ∷ xs) none = let both = neither (fault k x) (first_fau
     λ i. earlier (both.0 i) (first-ones k n xs both.1 i)
 
 -- if neither the held strings nor those that are interned have a fault, what is held then has none
-pub all-interned : (k : Kind) (xs strings : List (List ℕ)) → first_fault k xs ≡ None →
+pub all-interned : (k : TableKind) (xs strings : List (List ℕ)) → first_fault k xs ≡ None →
     first_fault k strings ≡ None → first_fault k (interned_all (key k) xs strings) ≡ None
 all-interned k xs [] none more = none
 all-interned k xs (s ∷ strings) none more = let both = neither (fault k s) (first_fault k strings) more in
@@ -65,7 +62,7 @@ all-interned k xs (s ∷ strings) none more = let both = neither (fault k s) (fi
     by_known false last = one-more k xs s none last
 
 -- what an interning leaves has no fault
-after : (k : Kind) (f : Option Refusal) (o : Option ℕ) (copies : Bool) (b : List ℕ) (s s' : State (List ℕ))
+after : (k : TableKind) (f : Option Refusal) (o : Option ℕ) (copies : Bool) (b : List ℕ) (s s' : State (List ℕ))
     (result : Result ℕ Refusal) → fault k b ≡ f → InternsBy copies b s (unless f o) result s'
     → first_fault k s.contents ≡ None → first_fault k s'.contents ≡ None
 after k None None copies b s s' (Ok i) good taken none =
@@ -82,49 +79,52 @@ after k (Some r) o copies b s s' result bad refused none = ap (λ (x : State (Li
 pub held : {o : Option AnyTable} {x : AnyTable} → o ≡ Some x → fault_in o ≡ None → IsFaultless (seen x)
 held is none = ap fault_in (sym is) ∙ none
 
--- a table that changes, all of whose strings are what its kind takes
-module _ (t t' : Seen) (same_kind : t'.kind ≡ t.kind) (faultless : IsFaultless t) where
-  pub with_contents : (xs : List (List ℕ)) → t'.state.contents ≡ xs → first_fault t.kind xs ≡ None →
-      IsFaultless t'
-  with_contents xs are none = (λ i. first_fault (same_kind i) (are i)) ∙ none
+-- a table that changes, all of whose strings are what its kind takes: so are those that it then has
+module _ {t t' : Seen} where
+  with_contents : {Step : State (List ℕ) → State (List ℕ) → Type 0} (xs : List (List ℕ)) →
+      IsChangedBy t t' Step → t'.state.contents ≡ xs → first_fault t.kind xs ≡ None → IsFaultless t'
+  with_contents xs changed are none = (λ i. first_fault (changed.kind i) (are i)) ∙ none
 
-  with_same : t'.state ≡ t.state → IsFaultless t'
-  with_same same = with_contents _ (ap (λ (x : State (List ℕ)). x.contents) same) faultless
+  with_same : {Step : State (List ℕ) → State (List ℕ) → Type 0} → IsChangedBy t t' Step →
+      t'.state ≡ t.state → IsFaultless t → IsFaultless t'
+  with_same changed same = with_contents _ changed (ap (λ (x : State (List ℕ)). x.contents) same)
 
+  -- a string is interned
   pub with_interned : (copies : Bool) (b : List ℕ) (result : Result ℕ Refusal) →
-      InternsBy copies b t.state (look_up t b) result t'.state → IsFaultless t'
-  with_interned copies b result step =
-      (λ i. first_fault (same_kind i) t'.state.contents)
-      ∙ after t.kind _ (position t b) copies b t.state t'.state result refl step faultless
-
-  pub with_first_ones : (n : ℕ) (result : Result (Unit {0}) StaleMark) → TakesBack t.state n result t'.state →
+      IsChangedBy t t' (λ _ s'. InternsBy copies b t.state (look_up t b) result s') → IsFaultless t →
       IsFaultless t'
-  with_first_ones n (Ok done) cut =
-      with_contents _ cut.contents (first-ones t.kind n t.state.contents faultless)
-  with_first_ones n (Err stale) kept = with_same kept.1
+  with_interned copies b result changed faultless = with_contents _ changed refl
+      (after t.kind _ (position t b) copies b t.state t'.state result refl changed.step faultless)
 
-  pub with_strings : (strings : List (List ℕ)) (symbols : List ℕ) (result : Result (Unit {0}) Refusal) →
-      InternsOr IsRolledBack strings symbols t result t'.state → IsFaultless t'
-  with_strings strings symbols (Ok done) all =
-      with_contents _ all.contents (all-interned t.kind t.state.contents strings faultless all.faultless)
-  with_strings strings symbols (Err refusal) stopped = with_contents _ stopped.1.contents faultless
+  -- a rollback
+  pub with_first_ones : (n : ℕ) (result : Result (Unit {0}) StaleMark) →
+      IsChangedBy t t' (λ s s'. TakesBack s n result s') → IsFaultless t → IsFaultless t'
+  with_first_ones n (Ok done) changed faultless =
+      with_contents _ changed changed.step.contents (first-ones t.kind n t.state.contents faultless)
+  with_first_ones n (Err stale) changed faultless = with_same changed changed.step.1 faultless
 
-  -- the strings that are interned are as many as the places, or there is nothing to do
+  -- strings are interned, if they are as many as the places
   pub with_either : (good : Bool) (strings : List (List ℕ)) (symbols : List ℕ)
       (result : Result (Unit {0}) Refusal)
-      → Either good (InternsOr IsRolledBack strings symbols t result t'.state) ((result ≡ Err BadEnds)
-      × (t'.state ≡ t.state)) → IsFaultless t'
-  with_either true strings symbols result some = with_strings strings symbols result some
-  with_either false strings symbols result kept = with_same kept.1
+      → IsChangedBy t t' (λ _ s'. Either good (InternsOr IsRolledBack strings symbols t result s')
+      ((result ≡ Err BadEnds) × (s' ≡ t.state))) → IsFaultless t → IsFaultless t'
+  with_either true strings symbols (Ok done) changed faultless = with_contents _ changed changed.step.contents
+      (all-interned t.kind t.state.contents strings faultless changed.step.faultless)
+  with_either true strings symbols (Err refusal) changed faultless =
+      with_contents _ changed changed.step.1.contents faultless
+  with_either false strings symbols result changed faultless = with_same changed changed.step.1 faultless
 
+  -- those of a frozen table are interned, if the bytes are one
   pub with_frozen : (bs places symbols : List ℕ) (result : Result (Unit {0}) Refusal) →
-      Absorbs bs places symbols t result t'.state → IsFaultless t'
-  with_frozen bs places symbols result (inl some) =
-      with_either (length places == length (strings bs)) (strings bs) symbols result some.1
-  with_frozen bs places symbols result (inr none) = with_same none.2
+      IsChangedBy t t' (λ _ s'. Absorbs bs places symbols t result s') → IsFaultless t → IsFaultless t'
+  with_frozen bs places symbols result changed faultless = elim changed.step [
+    | inl some ↦ with_either (length places == length (strings bs)) (strings bs) symbols result
+        (record { kind = changed.kind; hasher = changed.hasher; step = some.1 }) faultless
+    | inr none ↦ with_same changed none.2 faultless
+  ]
 
 -- bytes that a kind doesn't take have no key, or not that of a string which it takes
-other-key : (k : Kind) (x b : List ℕ) (r : Refusal) → fault k x ≡ None → fault k b ≡ Some r →
+other-key : (k : TableKind) (x b : List ℕ) (r : Refusal) → fault k x ≡ None → fault k b ≡ Some r →
     HasKey k b → key k x ≢ key k b
 other-key (Owned rule) x b r good bad some same =
     none-some r (sym good ∙ ap (λ (ks : List (List ℕ)). broken rule (get_or ks 0 [])) same ∙ bad)
@@ -133,7 +133,7 @@ other-key (Packed rule) x b r good bad some same =
     none-some r (sym good ∙ ap (λ (ks : List (List ℕ)). broken rule (get_or ks 0 [])) same ∙ bad)
 
 -- so a table doesn't have them
-not-there : (k : Kind) (xs : List (List ℕ)) (b : List ℕ) (r : Refusal) → first_fault k xs ≡ None →
+not-there : (k : TableKind) (xs : List (List ℕ)) (b : List ℕ) (r : Refusal) → first_fault k xs ≡ None →
     fault k b ≡ Some r → HasKey k b → first (key k) xs (key k b) ≡ None
 not-there k [] b r none bad some = refl
 not-there k (x ∷ xs) b r none bad some = let both = neither (fault k x) (first_fault k xs) none in rw (

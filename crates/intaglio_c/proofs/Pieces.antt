@@ -1,5 +1,6 @@
--- The strings of a list, and of a batch, by their position.
-use Rattle.intaglio_c.proofs.Names.{◌≡◌, ◌-◌, ◌<◌, ◌≤◌, ◌∷◌, if◌then◌else◌, common_steps, ℕ, zero, suc, Bool, true, false, List, [], length, take, drop, refl, ap, arith, nat_lt, Some, slice_get, get_or, ltb-false, are_ends, pieces}
+-- The strings of a batch by their position: how many there are, between which ends each stands, and that
+-- ends which pass the test are in order and within the bytes.
+use Rattle.intaglio_c.proofs.Names.{◌≡◌, ◌-◌, ◌<◌, ◌≤◌, ◌∷◌, common_steps, ℕ, zero, suc, true, List, [], length, take, drop, refl, ap, arith, Some, slice_get, get_or, are_ends, pieces}
 
 -- the strings of a batch
 pub pieces_length : (bytes : List ℕ) (start : ℕ) (ends : List ℕ) →

@@ -58,11 +58,7 @@ write_refusal (error.NoString _) = NoSymbol
 write_refusal (error.Missing _) = NoSymbol
 write_refusal error.Memory = NoMemory
 
--- why codes aren't made a column
-abbrev pub CannotWrite : Reference → List ℕ → Refusal → Type 0
-CannotWrite to cs refusal = ((refusal ≡ BadShard) × (to.shards ≡ 0))
-    ⊎ ((why : ColumnWriteError) × (refusal ≡ write_refusal why) × IsRefusal 0 to.id.count cs why)
-
--- codes are made a column of a dictionary
+-- codes are made a column of a dictionary, or there is an error that says why they aren't
 abbrev pub WritesColumn : Reference → List ℕ → List ℕ → List ℕ → ℕ → ℕ → Result (Unit {0}) Refusal → Type 0
-WritesColumn to cs = GivesMade (IsColumnOf to cs) (CannotWrite to cs)
+WritesColumn to cs = GivesMade (IsColumnOf to cs) (λ refusal. ((refusal ≡ BadShard) × (to.shards ≡ 0))
+    ⊎ ((why : ColumnWriteError) × (refusal ≡ write_refusal why) × IsRefusal 0 to.id.count cs why))

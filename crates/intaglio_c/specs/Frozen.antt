@@ -1,6 +1,6 @@
 -- What C sees of a frozen table, which is its bytes, and of the dictionaries that files name.
 use Rattle.std.specs.Prelude.{◌≡◌, ◌⊎◌, ◌≤◌, ◌∷◌, ◌==◌}
-use Rattle.intaglio_c.specs.Words.{ℕ, List, [], length, slice_get, Option, Some, None, MatchOption, MatchResult, IsErrAnd, Result, Ok, Err, State, first, Rule, Refusal, NoTable, NoMemory, NotUtf8, BadEnds, NoKind, NotFrozen, OtherVersion, Reserved, TooMany, Truncated, TextEnds, Unused, NotFound, TooLong, Equal, NoPlaces, TrailingBytes, BadShard, OtherIdentity, HasKeys, IsTableOf, HasSections, IsBlock, IsFrozen, AreSectionsOf, IsAt, FreezeError, FrozenError, FrozenKind, Sections, Place, Bool, Describes, HasRows, rows, shards_of, source_of, IsIdOfStrings, is_text_number, HasHeader, number_of, kind, set0, set1, shard, DictionaryId, SetId, Reference}
+use Rattle.intaglio_c.specs.Words.{ℕ, List, [], length, slice_get, Option, Some, None, MatchOption, MatchResult, IsErrAnd, Result, Ok, Err, State, first, Rule, Refusal, NoTable, NoMemory, NotUtf8, BadEnds, NoKind, NotFrozen, OtherVersion, Reserved, TooMany, Truncated, TextEnds, Unused, NotFound, TooLong, Equal, NoPlaces, TrailingBytes, BadShard, OtherIdentity, HasKeys, IsTableOf, HasSections, IsBlock, IsFrozen, AreSectionsOf, IsAt, FreezeError, FrozenError, FrozenKind, Sections, Place, Describes, HasRows, rows, shards_of, source_of, IsIdOfStrings, is_text_number, HasHeader, number_of, kind, set0, set1, shard, DictionaryId, SetId, Reference}
 use Rattle.intaglio_frozen.specs.Fault.{IsFault}
 use Rattle.intaglio_frozen.specs.Freezing.{IsRefusal}
 use Rattle.intaglio_frozen.specs.Layout.{strings, count, shards}
@@ -77,9 +77,8 @@ freeze_refusal error.Memory = NoMemory
 
 -- what strings of a rule are in a frozen table
 abbrev pub frozen_kind : Rule → FrozenKind
-frozen_kind rule.Bytes = frozen.Bytes
 frozen_kind rule.Text = frozen.Text
-frozen_kind rule.CStr = frozen.Bytes
+frozen_kind _ = frozen.Bytes
 
 -- bytes are a frozen table of the strings of a table, as C sees them, each at its symbol,
 -- at this place, under these keys or the next ones
@@ -88,17 +87,13 @@ pub record IsFrozenOf (t : Seen) (keys : ℕ × ℕ) (place : Place) (bs : List 
   pub placed : IsAt place bs
   pub keyed : HasKeys keys.0 keys.1 bs
 
--- why a table isn't frozen at a place
-abbrev pub CannotFreeze : Seen → Place → Refusal → Type 0
-CannotFreeze t place refusal = ((refusal ≡ BadShard) × (place.shards ≤ place.shard))
-    ⊎ ((error : FreezeError) × (refusal ≡ freeze_refusal error)
-    × IsRefusal (frozen_kind (rule_of t.kind)) t.state.contents error)
-
--- the table that a handle holds is frozen under keys at a place
+-- the table that a handle holds is frozen under keys at a place, or there is an error that says why it isn't
 abbrev pub FreezesHeld : Handle → ℕ × ℕ → Place → List ℕ → List ℕ → ℕ → ℕ → Result (Unit {0}) Refusal → Type 0
 FreezesHeld handle keys place buffer buffer' len len' result =
     MatchOption (table_of handle) ((result ≡ Err NoTable) × (buffer' ≡ buffer) × (len' ≡ len)) (λ t.
-    GivesMade (IsFrozenOf t keys place) (CannotFreeze t place) buffer buffer' len len' result)
+    GivesMade (IsFrozenOf t keys place) (λ refusal. ((refusal ≡ BadShard) × (place.shards ≤ place.shard))
+    ⊎ ((error : FreezeError) × (refusal ≡ freeze_refusal error)
+    × IsRefusal (frozen_kind (rule_of t.kind)) t.state.contents error)) buffer buffer' len len' result)
 
 -- what a frozen table says is written: which shard of which set it is, and how many strings it has; or what is
 -- wrong with the header is returned, and nothing is written
@@ -110,16 +105,16 @@ ReadsReference bs old new (Ok _) = HasHeader bs × (new ≡ record {
 })
 ReadsReference bs old new (Err refusal) = (¬ HasHeader bs) × IsRefused bs refusal × (new ≡ old)
 
--- what a column says of the dictionary to which its codes lead: in the map of a shard, it is the shard with
--- the same number
-pub record IsTargetOf (bs : List ℕ) (to : Reference) : Type 0 where
-  pub id : Describes bs to.id
-  pub shards : to.shards ≡ shards_of bs
-  pub shard : to.shard ≡ (source_of bs).shard
+-- what a column says of the dictionary to which its codes lead is written: in the map of a shard, it is the
+-- shard with the same number. Or what is wrong with the bytes is returned, and nothing is written
+abbrev pub ReadsTarget : List ℕ → Reference → Reference → Result (Unit {0}) Refusal → Type 0
+ReadsTarget bs old new (Ok _) = HasRows bs × Describes bs new.id × (new.shards ≡ shards_of bs)
+    × (new.shard ≡ (source_of bs).shard)
+ReadsTarget bs old new (Err refusal) = (¬ HasRows bs) × IsNoColumn bs refusal × (new ≡ old)
 
--- what it says of the dictionary, or the shard, whose strings are its rows: no shards if they are lines
-abbrev pub source_in : List ℕ → Reference
-source_in bs = record {
+-- the same of the dictionary, or the shard, whose strings are its rows: no shards if they are lines
+abbrev pub ReadsSource : List ℕ → Reference → Reference → Result (Unit {0}) Refusal → Type 0
+ReadsSource bs old new (Ok _) = HasRows bs × (new ≡ record {
   id = record {
     is_text = (source_of bs).is_text;
     count = rows bs;
@@ -128,15 +123,7 @@ source_in bs = record {
   };
   shards = (source_of bs).shards;
   shard = (source_of bs).shard;
-}
-
--- one of these is written; or what is wrong with the bytes is returned, and nothing is written
-abbrev pub ReadsTarget : List ℕ → Reference → Reference → Result (Unit {0}) Refusal → Type 0
-ReadsTarget bs old new (Ok _) = HasRows bs × IsTargetOf bs new
-ReadsTarget bs old new (Err refusal) = (¬ HasRows bs) × IsNoColumn bs refusal × (new ≡ old)
-
-abbrev pub ReadsSource : List ℕ → Reference → Reference → Result (Unit {0}) Refusal → Type 0
-ReadsSource bs old new (Ok _) = HasRows bs × (new ≡ source_in bs)
+})
 ReadsSource bs old new (Err refusal) = (¬ HasRows bs) × IsNoColumn bs refusal × (new ≡ old)
 
 -- the set of a dictionary
@@ -160,13 +147,8 @@ MakesSet made old new (Err refusal) = (refusal ≡ NoMemory) × (new.0 ≡ old.0
 abbrev pub single : Place
 single = record { set = record { hash0 = 0; hash1 = 0 }; shards = 1; shard = 0 }
 
--- what the dictionary of a table's strings in one file is
-pub record IsSingle (t : Seen) (r : Reference) : Type 0 where
-  pub id : IsIdOfStrings (is_text_number (number_of (frozen_kind (rule_of t.kind)))) t.state.contents r.id
-  pub shards : r.shards ≡ 1
-  pub shard : r.shard ≡ 0
-
--- it is written of the table that a handle holds
+-- what the dictionary of a table's strings in one file is, of the table that a handle holds
 abbrev pub IdentifiesHeld : Handle → Reference → Reference → Result (Unit {0}) Refusal → Type 0
 IdentifiesHeld handle old new result = MatchOption (table_of handle) ((result ≡ Err NoTable) × (new ≡ old))
-    (λ t. (result ≡ Ok tt) × IsSingle t new)
+    (λ t. (result ≡ Ok tt) × (new.shards ≡ 1) × (new.shard ≡ 0)
+    × IsIdOfStrings (is_text_number (number_of (frozen_kind (rule_of t.kind)))) t.state.contents new.id)

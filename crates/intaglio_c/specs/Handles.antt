@@ -1,8 +1,8 @@
 -- What a code says, what C sees of a handle, and what calls do to it.
-use Rattle.std.specs.Prelude.{◌≡◌, ◌⊎◌, ◌<◌, ◌≤◌, ◌+◌, ◌++◌, if◌then◌else◌}
-use Rattle.intaglio_c.specs.Words.{ℕ, Bool, true, false, Option, Some, None, Result, Ok, Err, Refusal, NoTable, Full, NoMemory, TooLarge, Stale, NotUtf8, InnerZero, MissingZero, BadEnds, NoSymbol, NoSpace, NoKind, NotFrozen, OtherVersion, Reserved, TooMany, Truncated, TextEnds, Unused, NotFound, TooLong, Equal, NoPlaces, NotColumn, BadWidth, TrailingBytes, BadShard, OtherIdentity, Damaged, InternError, Overflow, Memory, RoomError, StaleMark, IsErrAnd, List, [], length, drop, slice_get, nat_lt, option_map, option_and_then, MatchOption, IsSomeAnd, Empties, State, initial_hasher, Kind, DefaultHasher, Size}
+use Rattle.std.specs.Prelude.{◌≡◌, ◌⊎◌, ◌<◌, ◌≤◌, ◌++◌, if◌then◌else◌}
+use Rattle.intaglio_c.specs.Words.{ℕ, Option, Some, None, Result, Ok, Err, Refusal, NoTable, Full, NoMemory, TooLarge, Stale, NotUtf8, InnerZero, MissingZero, BadEnds, NoSymbol, NoSpace, NoKind, NotFrozen, OtherVersion, Reserved, TooMany, Truncated, TextEnds, Unused, NotFound, TooLong, Equal, NoPlaces, NotColumn, BadWidth, TrailingBytes, BadShard, OtherIdentity, Damaged, InternError, Overflow, Memory, RoomError, IsErrAnd, List, length, drop, slice_get, nat_lt, option_map, option_and_then, MatchOption, IsSomeAnd, Empties, State, empty_state, initial_hasher, TableKind, DefaultHasher, Size}
 use Rattle.intaglio_symbol.specs.declared.error.RoomError.TheVariants as room_error
-use Rattle.intaglio_c.specs.Seen.{kind_of, IsOutside, Seen, most_of, room_of, seen, IsChangedBy, look_up}
+use Rattle.intaglio_c.specs.Seen.{IsOutside, Seen, most_of, room_of, seen, IsChangedBy, look_up}
 pub use Rattle.intaglio_c.specs.declared.handle.Handle.{Handle}
 
 -- the code of an error
@@ -52,25 +52,10 @@ abbrev pub IsWritten : Result ℕ Refusal → ℕ → ℕ → Type 0
 IsWritten (Ok symbol) before after = after ≡ symbol
 IsWritten (Err _) before after = after ≡ before
 
--- a value, if it is given
-abbrev pub given : {X : Type 0} → Bool → X → Option X
-given true x = Some x
-given false x = None
-
 -- the error for C of an error of a constructor, a reservation or a shrink
 abbrev pub room_refusal : RoomError → Refusal
 room_refusal room_error.CapacityOverflow = TooLarge
 room_refusal (room_error.Memory _) = NoMemory
-
--- the result for C of a constructor, a reservation or a shrink
-abbrev pub room_answer : Result (Unit {0}) RoomError → Result (Unit {0}) Refusal
-room_answer (Ok done) = Ok done
-room_answer (Err error) = Err (room_refusal error)
-
--- the result for C of a rollback
-abbrev pub mark_answer : Result (Unit {0}) StaleMark → Result (Unit {0}) Refusal
-mark_answer (Ok done) = Ok done
-mark_answer (Err _) = Err Stale
 
 -- the result for C of an interning
 abbrev pub symbol_answer : Result ℕ InternError → Result ℕ Refusal
@@ -112,25 +97,20 @@ abbrev pub Clears : Handle → Handle → Type 0
 Clears old new = MatchOption (table_of old) (HoldsNone new) (λ before.
     IsSomeAnd (table_of new) (λ after. IsChangedBy before after Empties))
 
--- a new table, whose builder makes this hasher
-pub record IsNew (t : Seen) (which : Kind) (room limit : ℕ) (made : DefaultHasher) : Type 0 where
+-- a new table of a kind and a size, whose builder makes this hasher
+pub record IsNew (which : TableKind) (size : Size) (made : DefaultHasher) (t : Seen) : Type 0 where
   pub kind : t.kind ≡ which
-  pub state : t.state ≡ record { contents = []; spare = room; buckets = room; limit = limit }
+  pub state : t.state ≡ empty_state (room_of size) (most_of size)
   pub hasher : initial_hasher t.hasher ≡ made
 
--- a new table of a kind replaces what was held, unless the number is no kind's, the size is too large, or an
--- allocation fails
-abbrev pub Makes : Option Kind → Handle → Result (Unit {0}) Refusal → Type 0 → (Kind → Seen → Type 0) → Type 0
-Makes None new result IsTooLarge IsMade = (result ≡ Err NoKind) × HoldsNone new
-Makes (Some kind) new (Ok _) IsTooLarge IsMade = ¬ IsTooLarge × IsSomeAnd (table_of new) (IsMade kind)
-Makes (Some kind) new (Err TooLarge) IsTooLarge IsMade = IsTooLarge × HoldsNone new
-Makes (Some kind) new (Err NoMemory) IsTooLarge IsMade = ¬ IsTooLarge × HoldsNone new
-Makes (Some kind) new (Err _) IsTooLarge IsMade = ⊥
-
--- a table of this size is made
-abbrev pub MakesSized : ℕ → Size → DefaultHasher → Handle → Result (Unit {0}) Refusal → Type 0
-MakesSized kind size hasher new result = Makes (kind_of kind) new result (IsOutside size) (λ which t.
-    IsNew t which (room_of size) (most_of size) hasher)
+-- a new table of a kind and a size replaces what was held, unless the number is no kind's, the size is too
+-- large, or an allocation fails
+abbrev pub Makes : Option TableKind → Size → DefaultHasher → Handle → Result (Unit {0}) Refusal → Type 0
+Makes None size made new result = (result ≡ Err NoKind) × HoldsNone new
+Makes (Some kind) size made new (Ok _) = ¬ IsOutside size × IsSomeAnd (table_of new) (IsNew kind size made)
+Makes (Some kind) size made new (Err TooLarge) = IsOutside size × HoldsNone new
+Makes (Some kind) size made new (Err NoMemory) = ¬ IsOutside size × HoldsNone new
+Makes (Some kind) size made new (Err _) = ⊥
 
 -- what a look-up found
 abbrev pub found : Result (Option ℕ) Refusal → Option ℕ
@@ -163,12 +143,3 @@ abbrev pub GivesMade : (List ℕ → Type 0) → (Refusal → Type 0) → List �
     Result (Unit {0}) Refusal → Type 0
 GivesMade Made Why old new size size' result = ((bs : List ℕ) × Made bs × Gives bs old new size' result)
     ⊎ (IsErrAnd result Why × (new ≡ old) × (size' ≡ size))
-
--- the number of contents, and the capacity
-abbrev pub count : Option Seen → ℕ
-count None = 0
-count (Some t) = length t.state.contents
-
-abbrev pub capacity : Option Seen → ℕ
-capacity None = 0
-capacity (Some t) = length t.state.contents + t.state.spare

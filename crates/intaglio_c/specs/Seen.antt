@@ -1,14 +1,14 @@
 -- How C sees a table: its kind, its contents as their bytes, and its keys; what each kind makes of bytes; and
 -- what each call does to the state.
 use Rattle.std.specs.Prelude.{◌≡◌, ◌-◌, ◌==◌, if◌then◌else◌, ◌∷◌, ◌⊎◌, ◌<◌, ◌^◌, ◌+◌}
-use Rattle.intaglio_c.specs.Words.{ℕ, Bool, true, false, List, [], length, Option, Some, None, initial_hasher, KeyedState, Kind, Rule, Refusal, NotUtf8, InnerZero, MissingZero, is_utf8, write, finish, Key, key_hash, first_zero, components, Owned, Path, Packed, map, Result, Ok, Err, State, empty_state, first, bytes_content_bytes, path_content_bytes, Size, Capacity, Limit, AnyTable, IsAppended, IsOutOfMemory, IsReserved, IsShrunk, IsTruncated, IsUnreserved, Full, NoMemory, TooLarge, Stale}
+use Rattle.intaglio_c.specs.Words.{ℕ, Bool, true, false, List, [], length, Option, Some, None, initial_hasher, KeyedState, TableKind, Rule, Refusal, NotUtf8, InnerZero, MissingZero, is_utf8, write, finish, Key, key_hash, first_zero, components, Owned, Path, Packed, map, Result, Ok, Err, State, empty_state, first, bytes_content_bytes, path_content_bytes, Size, Capacity, Limit, AnyTable, IsAppended, IsOutOfMemory, IsReserved, IsShrunk, IsTruncated, IsUnreserved, Full, NoMemory, TooLarge, Stale}
 use Rattle.intaglio_c.specs.declared.kind.Rule.TheVariants as rule
-use Rattle.intaglio_c.specs.declared.kind.Kind.TheVariants as kind
+use Rattle.intaglio_c.specs.declared.kind.TableKind.TheVariants as kind
 use Rattle.intaglio_c.specs.declared.any_table.AnyTable.TheVariants as any_table
 
 -- the kind with a number: of texts, bytes, C strings, paths, OS strings, byte
 -- strings, packed texts and packed bytes
-abbrev pub kind_of : ℕ → Option Kind
+abbrev pub kind_of : ℕ → Option TableKind
 kind_of n = if n == 0 then Some (Owned rule.Text) else if n == 1 then Some (Owned rule.Bytes)
     else if n == 2 then Some (Owned rule.CStr)
     else if n == 3 then Some Path
@@ -19,22 +19,20 @@ kind_of n = if n == 0 then Some (Owned rule.Text) else if n == 1 then Some (Owne
     else None
 
 -- what the strings of a kind are
-abbrev pub rule_of : Kind → Rule
+abbrev pub rule_of : TableKind → Rule
 rule_of (Owned r) = r
 rule_of Path = rule.Text
 rule_of (Packed r) = r
 
 -- what bytes are compared by. Of a C string that is all bytes, which finds what those before the zero would
-abbrev pub key : Kind → List ℕ → Key
-key (Owned r) bytes = bytes ∷ []
+abbrev pub key : TableKind → List ℕ → Key
 key Path bytes = components bytes
-key (Packed r) bytes = bytes ∷ []
+key _ bytes = bytes ∷ []
 
 -- whether a kind copies static bytes
-abbrev pub copies_static : Kind → Bool
-copies_static (Owned r) = false
-copies_static Path = false
+abbrev pub copies_static : TableKind → Bool
 copies_static (Packed r) = true
+copies_static _ = false
 
 -- why bytes aren't a text, if they aren't
 abbrev pub utf8_fault : List ℕ → Option Refusal
@@ -45,17 +43,14 @@ abbrev pub zero_fault_at : ℕ → Option ℕ → Option Refusal
 zero_fault_at size None = Some MissingZero
 zero_fault_at size (Some place) = if place == size - 1 then None else Some InnerZero
 
-abbrev pub zero_fault : List ℕ → Option Refusal
-zero_fault bytes = zero_fault_at (length bytes) (first_zero bytes)
-
 -- why bytes aren't what a rule wants, if they aren't
 abbrev pub broken : Rule → List ℕ → Option Refusal
 broken rule.Bytes bytes = None
 broken rule.Text bytes = utf8_fault bytes
-broken rule.CStr bytes = zero_fault bytes
+broken rule.CStr bytes = zero_fault_at (length bytes) (first_zero bytes)
 
 -- why bytes aren't a string of a kind, if they aren't
-abbrev pub fault : Kind → List ℕ → Option Refusal
+abbrev pub fault : TableKind → List ℕ → Option Refusal
 fault kind bytes = broken (rule_of kind) bytes
 
 -- the first of two faults, if there is one
@@ -64,27 +59,26 @@ earlier None later = later
 earlier (Some refusal) later = Some refusal
 
 -- the fault of the first bytes that aren't a string of a kind, if there are such
-abbrev pub first_fault : Kind → List (List ℕ) → Option Refusal
+abbrev pub first_fault : TableKind → List (List ℕ) → Option Refusal
 first_fault kind [] = None
 first_fault kind (string ∷ strings) = earlier (fault kind string) (first_fault kind strings)
 
 -- bytes have a key of a kind: only a text has the components of a path
-abbrev pub HasKey : Kind → List ℕ → Type 0
-HasKey (Owned r) bytes = Unit {0}
+abbrev pub HasKey : TableKind → List ℕ → Type 0
 HasKey Path bytes = utf8_fault bytes ≡ None
-HasKey (Packed r) bytes = Unit {0}
+HasKey _ bytes = Unit {0}
 
 -- the hash of a key under a table's keys
 abbrev pub keyed_hash : KeyedState → Key → ℕ
 keyed_hash keys k = key_hash finish write (initial_hasher keys) k
 
 -- the hash of the key of these bytes, or any number if they have none
-abbrev pub IsHash : Kind → KeyedState → List ℕ → ℕ → Type 0
+abbrev pub IsHash : TableKind → KeyedState → List ℕ → ℕ → Type 0
 IsHash kind keys bytes n = HasKey kind bytes → n ≡ keyed_hash keys (key kind bytes)
 
 -- a table as C sees it
 pub record Seen : Type 0 where
-  pub kind : Kind
+  pub kind : TableKind
   pub state : State (List ℕ)
   pub hasher : KeyedState
 
@@ -94,7 +88,7 @@ as_bytes bytes s =
     record { contents = map bytes s.contents; spare = s.spare; buckets = s.buckets; limit = s.limit }
 
 -- a state of a table of this kind, by the bytes of its contents
-abbrev pub seen_of : {C : Type 0} → Kind → (C → List ℕ) → State C → KeyedState → Seen
+abbrev pub seen_of : {C : Type 0} → TableKind → (C → List ℕ) → State C → KeyedState → Seen
 seen_of k bytes s hasher = record { kind = k; state = as_bytes bytes s; hasher = hasher }
 
 -- a packed table's contents are their bytes
@@ -124,7 +118,7 @@ abbrev pub IsFaultless : Seen → Type 0
 IsFaultless t = first_fault t.kind t.state.contents ≡ None
 
 -- a new table, whose capacity is that of its buckets
-abbrev pub new_table : Kind → ℕ → ℕ → KeyedState → Seen
+abbrev pub new_table : TableKind → ℕ → ℕ → KeyedState → Seen
 new_table which room most keys = record { kind = which; state = empty_state room most; hasher = keys }
 
 -- the capacity of a new table of this size

@@ -3,9 +3,9 @@ pub use Rattle.intaglio_bytes.specs.BytesContent.{bytes_content_bytes}
 pub use Rattle.intaglio_c.specs.declared.any_table.AnyTable.{AnyTable}
 pub use Rattle.intaglio_c.specs.declared.any_table.size.Size.{Size}
 pub use Rattle.intaglio_c.specs.declared.any_table.size.Size.TheVariants.{Capacity, Limit}
-pub use Rattle.intaglio_c.specs.declared.kind.Kind.{Kind}
-pub use Rattle.intaglio_c.specs.declared.kind.Kind.TheVariants.{Owned, Path, Packed}
 pub use Rattle.intaglio_c.specs.declared.kind.Rule.{Rule}
+pub use Rattle.intaglio_c.specs.declared.kind.TableKind.{TableKind}
+pub use Rattle.intaglio_c.specs.declared.kind.TableKind.TheVariants.{Owned, Path, Packed}
 pub use Rattle.intaglio_c.specs.declared.reference.Reference.{Reference}
 pub use Rattle.intaglio_c.specs.declared.refusal.Refusal.{Refusal}
 pub use Rattle.intaglio_c.specs.declared.refusal.Refusal.TheVariants.{NoTable, Full, NoMemory, TooLarge, Stale, NotUtf8, InnerZero, MissingZero, BadEnds, NoSymbol, NoSpace, NoKind, NotFrozen, OtherVersion, Reserved, TooMany, Truncated, TextEnds, Unused, NotFound, TooLong, Equal, NoPlaces, NotColumn, BadWidth, TrailingBytes, BadShard, OtherIdentity, Damaged}
@@ -47,7 +47,8 @@ pub use Rattle.intaglio_symbol.specs.declared.error.RoomError.{RoomError}
 pub use Rattle.intaglio_symbol.specs.declared.error.RoomError.TheVariants.{CapacityOverflow}
 pub use Rattle.intaglio_symbol.specs.declared.error.StaleMark.{StaleMark}
 pub use Rattle.std.specs.Hash.DefaultHasher.{write, finish, with_keys}
+pub use Rattle.std.specs.Bool.{then_some as given}
 pub use Rattle.std.specs.List.{concat}
-pub use Rattle.std.specs.Prelude.{◌≡◌, ℕ, Bool, true, false, Option, Some, None, Result, Ok, Err, ◌+◌, ◌-◌, ◌^◌, ◌<◌, ◌≤◌, ◌==◌, if◌then◌else◌, nat_lt, List, [], ◌∷◌, ◌++◌, length, map, take, drop, slice_get, get_or, MatchOption, ◌⊎◌, ◌≢◌, MatchResult, IsErrAnd, option_map, option_and_then, IsSomeAnd, ⊤, IfOk, IfErr, ◌↔◌, min, IsTrue}
+pub use Rattle.std.specs.Prelude.{ℕ, Bool, true, false, Option, Some, None, Result, Ok, Err, nat_lt, List, [], length, map, take, drop, slice_get, get_or, MatchOption, MatchResult, unwrap_or, IsErrAnd, option_map, option_and_then, IsSomeAnd, ⊤, IfOk, IfErr, min, IsTrue}
 pub use Rattle.std.specs.Str.{is_utf8}
 pub use Rattle.std.specs.declared.hash.DefaultHasher.{DefaultHasher}

@@ -1,8 +1,8 @@
 //! Look-ups of strings in groups, hashed ahead.
 ghost use Rattle.std.specs.Prelude.{◌≡◌};
-ghost use Rattle.intaglio_c.specs.Cited.{ℕ, List, length, ⊤, AreAll, MayBeIn};
+ghost use Rattle.intaglio_c.specs.Cited.{ℕ, List, length, ⊤, AreAll, MayBeIn, or_absent};
 
-use intaglio_core::GROUP;
+use intaglio_core::{GROUP, Symbol};
 use intaglio_frozen::ahead::{HashesAhead, look_ahead};
 use intaglio_frozen::{StringList, TrustedFrozen};
 
@@ -43,9 +43,16 @@ impl LookUps for TrustedFrozen<'_> {
 
     #[inline(always)]
     fn find_number(&self, hash: u64, bytes: &[u8]) -> u64 {
-        match self.check_hashed(hash, bytes) {
-            Some(symbol) => symbol.id() as u64,
-            None => u64::MAX,
-        }
+        or_absent(self.check_hashed(hash, bytes))
+    }
+}
+
+// The number that is written for a look-up.
+pub(crate) fn or_absent(known: Option<Symbol>) -> u64
+    ensures number { result ≡ or_absent known }
+{
+    match known {
+        Some(symbol) => symbol.id() as u64,
+        None => u64::MAX,
     }
 }

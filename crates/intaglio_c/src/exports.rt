@@ -25,6 +25,16 @@ macro_rules! or_code {
     };
 }
 
+// The value of a result. After an error the call returns at once what is given.
+macro_rules! value_or {
+    ($result:expr, $without:expr) => {
+        match $result {
+            Ok(value) => value,
+            Err(_) => return $without,
+        }
+    };
+}
+
 // Writes a part of what was found, if something was, and returns whether it was.
 macro_rules! write_found {
     ($found:expr, $part:ident => $place:ident = $value:expr) => {

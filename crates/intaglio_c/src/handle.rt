@@ -4,7 +4,7 @@ ghost use Rattle.intaglio_c.specs.Seen.{fault_in};
 
 use crate::any_table::AnyTable;
 use crate::any_table::size::Size;
-use crate::kind::Kind;
+use crate::kind::TableKind;
 use crate::refusal::Refusal;
 use crate::table_ptr::{BoxParts, TablePtr};
 use intaglio_hash::KeyedState;
@@ -22,6 +22,9 @@ pub struct Handle {
 }
 
 impl Handle {
+    ghost use Rattle.std.specs.Prelude.{◌≡◌, None};
+    ghost use Rattle.intaglio_c.specs.Cited.{Makes, initial_hasher, kind_of};
+
     pub(crate) fn none(alloc: Global) -> Handle
         ensures empty { result.ptr.table ≡ None }
     {
@@ -30,10 +33,6 @@ impl Handle {
             ptr: TablePtr::none(alloc),
         }
     }
-}
-
-impl Handle {
-    ghost use Rattle.intaglio_c.specs.Cited.{MakesSized, initial_hasher};
 
     // Puts a new table of a kind and a size into the handle. The earlier one is freed. For a number that is
     // no kind's it returns `NoKind`, and then, as after each error, the handle holds no table.
@@ -44,12 +43,10 @@ impl Handle {
         size: Size,
         keys: KeyedState,
     ) -> Result<(), Refusal>
-        ensures made { MakesSized kind size (initial_hasher keys) self.new result }
+        ensures made { Makes (kind_of kind) size (initial_hasher keys) self.new result }
     {
         *self = Handle::none(alloc);
-        let Some(kind) = Kind::of(kind) else {
-            return Err(Refusal::NoKind);
-        };
+        let kind = TableKind::of(kind).ok_or(Refusal::NoKind)?;
         let table = AnyTable::of_size(alloc, kind, size, keys)?;
         // If there is no memory, std's conversion of the error drops the table.
         let table = Box::new(alloc, table).map_err(AllocError::from)?;

@@ -1,9 +1,8 @@
 //! The kinds of tables, and what each wants of the bytes that come in.
 ghost use Rattle.std.specs.Prelude.{◌≡◌};
-ghost use Rattle.intaglio_c.specs.Cited.{IfOk, IfErr, None, Some, broken, kind_of, utf8_fault, zero_fault};
+ghost use Rattle.intaglio_c.specs.Cited.{IfOk, IfErr, None, Some, kind_of, utf8_fault};
 
 use crate::refusal::Refusal;
-use intaglio_cstr::{CStr, CStrError};
 
 /// What the strings of a table are.
 #[derive(Clone, Copy)]
@@ -18,7 +17,7 @@ pub enum Rule {
 
 /// A kind of table.
 #[derive(Clone, Copy)]
-pub enum Kind {
+pub enum TableKind {
     /// Each string is in a place of its own.
     Owned(Rule),
     /// Texts, equal if their components as paths are.
@@ -27,20 +26,18 @@ pub enum Kind {
     Packed(Rule),
 }
 
-impl Kind {
+impl TableKind {
     // The kind with this number in C, which has two numbers for texts and two for bytes.
-    pub(crate) fn of(number: u32) -> Option<Kind>
+    pub(crate) fn of(number: u32) -> Option<TableKind>
         ensures kind { result ≡ kind_of number }
     {
         match number {
-            0 => Some(Kind::Owned(Rule::Text)),
-            1 => Some(Kind::Owned(Rule::Bytes)),
-            2 => Some(Kind::Owned(Rule::CStr)),
-            3 => Some(Kind::Path),
-            4 => Some(Kind::Owned(Rule::Text)),
-            5 => Some(Kind::Owned(Rule::Bytes)),
-            6 => Some(Kind::Packed(Rule::Text)),
-            7 => Some(Kind::Packed(Rule::Bytes)),
+            0 | 4 => Some(TableKind::Owned(Rule::Text)),
+            1 | 5 => Some(TableKind::Owned(Rule::Bytes)),
+            2 => Some(TableKind::Owned(Rule::CStr)),
+            3 => Some(TableKind::Path),
+            6 => Some(TableKind::Packed(Rule::Text)),
+            7 => Some(TableKind::Packed(Rule::Bytes)),
             _ => None,
         }
     }
@@ -57,35 +54,5 @@ pub(crate) fn text_of(bytes: &[u8]) -> Result<&str, Refusal>
     match str::from_utf8(bytes) {
         Ok(text) => Ok(text),
         Err(_) => Err(Refusal::NotUtf8),
-    }
-}
-
-// Checks that the only zero of the bytes is the last one.
-fn check_zeros(bytes: &[u8]) -> Result<(), Refusal>
-    ensures faultless { IfOk result (λ _. zero_fault bytes.now ≡ None) }
-    ensures err { IfErr result (λ refusal. zero_fault bytes.now ≡ Some refusal) }
-{
-    match CStr::from_bytes_with_nul(bytes) {
-        Ok(_) => Ok(()),
-        Err(CStrError::InnerZero(_)) => Err(Refusal::InnerZero),
-        Err(CStrError::MissingZero) => Err(Refusal::MissingZero),
-    }
-}
-
-impl Rule {
-    // Checks that the bytes are what the rule wants.
-    #[inline(always)]
-    pub(crate) fn check(self, bytes: &[u8]) -> Result<(), Refusal>
-        ensures faultless { IfOk result (λ _. broken self bytes.now ≡ None) }
-        ensures err { IfErr result (λ refusal. broken self bytes.now ≡ Some refusal) }
-    {
-        match self {
-            Rule::Bytes => Ok(()),
-            Rule::Text => match text_of(bytes) {
-                Ok(_) => Ok(()),
-                Err(refusal) => Err(refusal),
-            },
-            Rule::CStr => check_zeros(bytes),
-        }
     }
 }

@@ -19,7 +19,7 @@ mod table_ptr;
 
 pub use any_table::AnyTable;
 pub use handle::Handle;
-pub use kind::{Kind, Rule};
+pub use kind::{Rule, TableKind};
 pub use reference::Reference;
 pub use refusal::Refusal;
 pub use spelling::Spelling;

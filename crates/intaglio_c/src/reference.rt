@@ -19,6 +19,12 @@ pub struct Reference {
 }
 
 impl Reference {
+    pub(crate) fn of(id: DictionaryId, shards: u32, shard: u32) -> Reference
+        ensures { result ≡ record { id = id; shards = shards; shard = shard } }
+    {
+        Reference { id, shards, shard }
+    }
+
     // The place of the shard.
     pub(crate) fn place(&self) -> Place
         ensures { result ≡ place_in self.now }

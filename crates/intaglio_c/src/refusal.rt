@@ -1,9 +1,9 @@
 //! Errors and their codes, and results as C gets them.
 ghost use Rattle.std.specs.Prelude.{◌≡◌};
-ghost use Rattle.intaglio_c.specs.Cited.{Ok, Err, answer_code, mark_answer, refusal_code, room_answer, room_refusal, symbol_answer, IsWritten, column_refusal, write_refusal, freeze_refusal, frozen_refusal, NoMemory};
+ghost use Rattle.intaglio_c.specs.Cited.{Ok, Err, answer_code, room_refusal, symbol_answer, IsWritten, column_refusal, write_refusal, freeze_refusal, frozen_refusal, NoMemory};
 
 use intaglio_columns::{ColumnError, ColumnWriteError};
-use intaglio_core::{InternError, RoomError, StaleMark, Symbol};
+use intaglio_core::{InternError, RoomError, Symbol};
 use intaglio_frozen::{FreezeError, FrozenError};
 use std::alloc::AllocError;
 
@@ -70,15 +70,6 @@ pub enum Refusal {
     OtherIdentity = 28,
     /// The checksum of a column isn't that of its codes and its header.
     Damaged = 29,
-}
-
-impl Refusal {
-    // The code that C gets.
-    pub(crate) fn code(self) -> u32
-        ensures code { result ≡ refusal_code self }
-    {
-        self as u32
-    }
 }
 
 impl From<AllocError> for Refusal {
@@ -189,7 +180,7 @@ pub(crate) fn code(answer: Result<(), Refusal>) -> u32
 {
     match answer {
         Ok(()) => 0,
-        Err(refusal) => refusal.code(),
+        Err(refusal) => refusal as u32,
     }
 }
 
@@ -203,24 +194,7 @@ pub(crate) fn symbol_code(answer: Result<Symbol, Refusal>, symbol: &mut u32) -> 
             *symbol = issued.id();
             0
         }
-        Err(refusal) => refusal.code(),
-    }
-}
-
-// The result for C of a constructor, a reservation or a shrink.
-pub(crate) fn room_answer(answer: Result<(), RoomError>) -> Result<(), Refusal>
-    ensures answer { result ≡ room_answer answer }
-{
-    Ok(answer?)
-}
-
-// The result for C of a rollback.
-pub(crate) fn mark_answer(answer: Result<(), StaleMark>) -> Result<(), Refusal>
-    ensures answer { result ≡ mark_answer answer }
-{
-    match answer {
-        Ok(()) => Ok(()),
-        Err(_) => Err(Refusal::Stale),
+        Err(refusal) => refusal as u32,
     }
 }
 

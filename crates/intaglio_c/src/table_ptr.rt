@@ -1,5 +1,5 @@
 //! The pointer of a handle, and what it owns: a box as its pointer and its allocator.
-ghost use Rattle.std.specs.Prelude.{◌≡◌, IsSomeAnd, ⊤, Option as Maybe, None, Some};
+ghost use Rattle.std.specs.Prelude.{◌≡◌, Option as Maybe};
 ghost use Rattle.std.specs.Box.Ownership.{box_owns};
 ghost use Rattle.intaglio_c.specs.declared.any_table.AnyTable.{AnyTable};
 ghost use Rattle.intaglio_c.specs.Owned.{ptr_owns, table_coded};
@@ -53,6 +53,10 @@ impl Model for TablePtr {
 }
 
 impl TablePtr {
+    ghost use Rattle.std.specs.Prelude.{◌≡◌, IsSomeAnd, ⊤, None, Some};
+    ghost use Rattle.std.specs.Borrow.{sem};
+    ghost use Rattle.intaglio_c.specs.Lent.{table_follows};
+
     // Nothing, behind a null pointer.
     pub(crate) fn none(alloc: Global) -> TablePtr
         ensures empty { result.table ≡ None }
@@ -83,12 +87,6 @@ impl TablePtr {
             alloc,
         }
     }
-}
-
-impl TablePtr {
-    ghost use Rattle.std.specs.Prelude.{◌≡◌, IsSomeAnd, ⊤, Some};
-    ghost use Rattle.std.specs.Borrow.{sem};
-    ghost use Rattle.intaglio_c.specs.Lent.{table_follows};
 
     // The table, lent.
     pub(crate) fn table_mut(&mut self) -> &mut AnyTable

@@ -20,10 +20,7 @@ impl AnyTable {
         let mut used = GROUP;
         for i in 0..symbols.len() {
             used = look_ahead(&*self, list, i, &mut hashes, used);
-            match self.intern(hashes[used], list.string(i)) {
-                Ok(symbol) => symbols[i] = symbol.id(),
-                Err(refusal) => return Err(refusal),
-            }
+            symbols[i] = self.intern(hashes[used], list.string(i))?.id();
             used += 1;
         }
         Ok(())

@@ -1,13 +1,14 @@
 //! Strings as their bytes.
 ghost use Rattle.std.specs.Prelude.{◌≡◌, ◌∷◌};
-ghost use Rattle.intaglio_c.specs.Cited.{[], None, Some, IfOk, IfErr, slice_get, option_map, components, IsNumberIn, or_absent, found, IsHash, fault, keyed_hash, utf8_fault, IsFaultless, TakesStep, contents_of, look_up, seen, Interns, InternsStatic};
+ghost use Rattle.intaglio_c.specs.Cited.{[], None, Some, IfOk, IfErr, slice_get, option_map, components, IsNumberIn, found, IsHash, fault, keyed_hash, utf8_fault, IsFaultless, TakesStep, contents_of, look_up, rule_of, seen, Interns, InternsStatic};
 
 use super::AnyTable;
-use crate::ahead::LookUps;
-use crate::kind::text_of;
+use crate::ahead::{LookUps, or_absent};
+use crate::kind::{Rule, text_of};
 use crate::refusal::{Refusal, symbol_answer};
 use intaglio_bytes::bytes::BytesContent;
 use intaglio_core::{BaseInterner, Sought, Symbol, Work};
+use intaglio_cstr::{CStr, CStrError};
 use intaglio_frozen::ahead::HashesAhead;
 use intaglio_hash::KeyedState;
 use intaglio_path::{Path, PathContent};
@@ -50,13 +51,32 @@ impl AnyTable {
         }
     }
 
+    // What the strings are.
+    pub(crate) fn rule(&self) -> Rule
+        ensures { result ≡ rule_of (seen self.now).kind }
+    {
+        match self {
+            AnyTable::Owned(rule, _) | AnyTable::Packed(rule, _) => *rule,
+            AnyTable::Path(_) => Rule::Text,
+        }
+    }
+
     // Checks that the bytes are what the table takes.
     #[inline(always)]
     fn check(&self, bytes: &[u8]) -> Result<(), Refusal>
         ensures faultless { IfOk result (λ _. fault (seen self.now).kind bytes.now ≡ None) }
         ensures err { IfErr result (λ refusal. fault (seen self.now).kind bytes.now ≡ Some refusal) }
     {
-        self.rule().check(bytes)
+        match self.rule() {
+            Rule::Bytes => Ok(()),
+            Rule::Text => text_of(bytes).and(Ok(())),
+            // The only zero of a C string is its last byte.
+            Rule::CStr => match CStr::from_bytes_with_nul(bytes) {
+                Ok(_) => Ok(()),
+                Err(CStrError::InnerZero(_)) => Err(Refusal::InnerZero),
+                Err(CStrError::MissingZero) => Err(Refusal::MissingZero),
+            },
+        }
     }
 
     // The symbol of the string that is equal to these bytes, by their hash, if there is one. Only those of a
@@ -107,16 +127,6 @@ impl AnyTable {
             }
             AnyTable::Packed(_, table) => symbol_answer(table.get_or_intern(bytes)),
         }
-    }
-}
-
-// The number that is written for a look-up.
-fn or_absent(known: Option<Symbol>) -> u64
-    ensures number { result ≡ or_absent known }
-{
-    match known {
-        Some(symbol) => symbol.id() as u64,
-        None => u64::MAX,
     }
 }
 

@@ -1,6 +1,6 @@
 //! A table as a list of strings that can be frozen.
 ghost use Rattle.std.specs.Prelude.{◌≡◌};
-ghost use Rattle.intaglio_c.specs.Cited.{frozen_kind, rule_of, contents_of, seen};
+ghost use Rattle.intaglio_c.specs.Cited.{frozen_kind, contents_of};
 
 use super::AnyTable;
 use crate::kind::Rule;
@@ -30,18 +30,5 @@ pub(crate) fn frozen_kind(rule: Rule) -> Kind
     match rule {
         Rule::Text => Kind::Text,
         Rule::Bytes | Rule::CStr => Kind::Bytes,
-    }
-}
-
-impl AnyTable {
-    // What the strings are.
-    pub(crate) fn rule(&self) -> Rule
-        ensures { result ≡ rule_of (seen self.now).kind }
-    {
-        match self {
-            AnyTable::Owned(rule, _) => *rule,
-            AnyTable::Path(_) => Rule::Text,
-            AnyTable::Packed(rule, _) => *rule,
-        }
     }
 }

@@ -4,7 +4,7 @@ ghost use Rattle.intaglio_c.specs.Cited.{Err, IfOk, length, empty_table, Capacit
 ghost use Rattle.intaglio_interner.specs.Change.{Reserves, Shrinks, TakesBack};
 
 use super::AnyTable;
-use crate::kind::Kind;
+use crate::kind::TableKind;
 use intaglio::TableOver;
 use intaglio_core::{Indexed, Mark, RoomError, StaleMark};
 use intaglio_hash::KeyedState;
@@ -37,7 +37,7 @@ impl AnyTable {
     // A table of this size.
     pub(crate) fn of_size(
         alloc: Global,
-        kind: Kind,
+        kind: TableKind,
         size: Size,
         keys: KeyedState,
     ) -> Result<Self, RoomError>
@@ -45,9 +45,9 @@ impl AnyTable {
         ensures overflow { (result ≡ Err CapacityOverflow) ↔ IsOutside size }
     {
         match kind {
-            Kind::Owned(rule) => Ok(Self::Owned(rule, table_of(alloc, size, keys)?)),
-            Kind::Path => Ok(Self::Path(table_of(alloc, size, keys)?)),
-            Kind::Packed(rule) => Ok(Self::Packed(rule, table_of(alloc, size, keys)?)),
+            TableKind::Owned(rule) => Ok(Self::Owned(rule, table_of(alloc, size, keys)?)),
+            TableKind::Path => Ok(Self::Path(table_of(alloc, size, keys)?)),
+            TableKind::Packed(rule) => Ok(Self::Packed(rule, table_of(alloc, size, keys)?)),
         }
     }
 

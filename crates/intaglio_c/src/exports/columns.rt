@@ -9,16 +9,6 @@ use crate::spelling::give;
 use intaglio_columns::{Column, DictionaryId, RowSource, sourced_column_bytes};
 use std::alloc::Global;
 
-// The column of these bytes. If they have no rows, the call returns at once.
-macro_rules! column_of {
-    ($bytes:ident, $without:expr) => {
-        match Column::open_trusted($bytes) {
-            Ok(column) => column,
-            Err(_) => return $without,
-        }
-    };
-}
-
 /// Checks that these bytes are a column, and reads all of them. Fails with what is wrong with them.
 #[unsafe(no_mangle)]
 pub extern "C" fn intaglio_column_check(bytes: &[u8]) -> u32
@@ -35,7 +25,7 @@ pub extern "C" fn intaglio_column_len(bytes: &[u8]) -> usize
     ensures rows { HasRows bytes.now → result ≡ length (codes bytes.now) }
     ensures none { ¬ HasRows bytes.now → result ≡ 0 }
 {
-    column_of!(bytes, 0).len()
+    value_or!(Column::open_trusted(bytes), 0).len()
 }
 
 /// How many bytes a code of a column has, or 0 as [`intaglio_column_len`].
@@ -44,7 +34,7 @@ pub extern "C" fn intaglio_column_width(bytes: &[u8]) -> usize
     ensures width { HasRows bytes.now → result ≡ bytes_of (width_of bytes.now) }
     ensures none { ¬ HasRows bytes.now → result ≡ 0 }
 {
-    column_of!(bytes, 0).width().bytes()
+    value_or!(Column::open_trusted(bytes), 0).width().bytes()
 }
 
 /// Writes which dictionary a column belongs to, with the number of its strings, or of those of one shard if the
@@ -55,11 +45,7 @@ pub extern "C" fn intaglio_column_id(bytes: &[u8], id: &mut Reference) -> u32
     ensures read { IsCodeOf result (ReadsTarget bytes.now id.old id.new) }
 {
     let header = or_code!(Column::open_trusted(bytes)).header();
-    *id = Reference {
-        id: header.id,
-        shards: header.shards,
-        shard: header.source.shard,
-    };
+    *id = Reference::of(header.id, header.shards, header.source.shard);
     code(done())
 }
 
@@ -71,16 +57,13 @@ pub extern "C" fn intaglio_column_source(bytes: &[u8], id: &mut Reference) -> u3
 {
     let header = or_code!(Column::open_trusted(bytes)).header();
     let source = header.source;
-    *id = Reference {
-        id: DictionaryId {
-            is_text: source.is_text,
-            count: header.rows,
-            hash0: source.hash0,
-            hash1: source.hash1,
-        },
-        shards: source.shards,
-        shard: source.shard,
+    let strings = DictionaryId {
+        is_text: source.is_text,
+        count: header.rows,
+        hash0: source.hash0,
+        hash1: source.hash1,
     };
+    *id = Reference::of(strings, source.shards, source.shard);
     code(done())
 }
 
@@ -91,7 +74,7 @@ pub extern "C" fn intaglio_column_code(bytes: &[u8], row: usize, found: &mut u32
     ensures none { ¬ HasRows bytes.now → result ≡ false }
     ensures unwritten { result ≡ false → found.new ≡ found.old }
 {
-    write_found!(column_of!(bytes, false).code(row), code => found = code)
+    write_found!(value_or!(Column::open_trusted(bytes), false).code(row), code => found = code)
 }
 
 /// Writes the codes of the rows of a column from one on, as many as there are places and
@@ -103,7 +86,7 @@ pub extern "C" fn intaglio_column_codes(bytes: &[u8], from: usize, places: &mut 
     ensures none { ¬ HasRows bytes.now → result ≡ 0 }
     ensures unwritten { ¬ HasRows bytes.now → places.new ≡ places.old }
 {
-    column_of!(bytes, 0).codes_into(from, places)
+    value_or!(Column::open_trusted(bytes), 0).codes_into(from, places)
 }
 
 /// Writes the rows of a column that have this code, in ascending order, as far as there are places.
@@ -115,7 +98,7 @@ pub extern "C" fn intaglio_column_rows(bytes: &[u8], code: u32, places: &mut [u6
     ensures none { ¬ HasRows bytes.now → result ≡ 0 }
     ensures unwritten { ¬ HasRows bytes.now → places.new ≡ places.old }
 {
-    column_of!(bytes, 0).rows_into(code, places)
+    value_or!(Column::open_trusted(bytes), 0).rows_into(code, places)
 }
 
 /// Writes how often each string of the dictionary occurs in a column, and how many rows are missing. Fails

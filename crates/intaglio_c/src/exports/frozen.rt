@@ -86,11 +86,7 @@ pub extern "C" fn intaglio_own_id(handle: &mut Handle, id: &mut Reference) -> u3
 {
     let table = table_of!(handle);
     let is_text = frozen_kind(table.rule()) == Kind::Text;
-    *id = Reference {
-        id: DictionaryId::of_list(is_text, &*table),
-        shards: 1,
-        shard: 0,
-    };
+    *id = Reference::of(DictionaryId::of_list(is_text, &*table), 1, 0);
     code(done())
 }
 
@@ -101,16 +97,13 @@ pub extern "C" fn intaglio_frozen_id(bytes: &[u8], id: &mut Reference) -> u32
     ensures read { IsCodeOf result (ReadsReference bytes.now id.old id.new) }
 {
     let header = or_code!(Header::read(bytes));
-    *id = Reference {
-        id: DictionaryId {
-            is_text: header.id.is_text,
-            count: header.count,
-            hash0: header.place.set.hash0,
-            hash1: header.place.set.hash1,
-        },
-        shards: header.place.shards,
-        shard: header.place.shard,
+    let whole = DictionaryId {
+        is_text: header.id.is_text,
+        count: header.count,
+        hash0: header.place.set.hash0,
+        hash1: header.place.set.hash1,
     };
+    *id = Reference::of(whole, header.place.shards, header.place.shard);
     code(done())
 }
 
@@ -159,10 +152,7 @@ pub extern "C" fn intaglio_frozen_is_text(bytes: &[u8]) -> bool
     ensures kind { HasHeader bytes.now → IsTrue result ↔ (kind bytes.now ≡ text_kind) }
     ensures none { ¬ HasHeader bytes.now → result ≡ false }
 {
-    match Header::read(bytes) {
-        Ok(header) => header.kind == Kind::Text,
-        Err(_) => false,
-    }
+    value_or!(Header::read(bytes), false).kind == Kind::Text
 }
 
 /// Writes what the header of a frozen table says, and where its sections are, for the two calls below.

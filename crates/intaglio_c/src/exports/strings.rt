@@ -48,13 +48,7 @@ pub extern "C" fn intaglio_check_interned(
     ensures kept { Keeps handle.old handle.new }
 {
     let table = table_of!(handle, false);
-    match table.find(table.hash(bytes), bytes) {
-        Some(known) => {
-            *symbol = known.id();
-            true
-        }
-        None => false,
-    }
+    write_found!(table.find(table.hash(bytes), bytes), known => symbol = known.id())
 }
 
 /// Writes where the bytes of a symbol are, if it has any, and returns whether it has.
@@ -64,8 +58,7 @@ pub extern "C" fn intaglio_get(handle: &mut Handle, symbol: u32, out: &mut Spell
     ensures unwritten { result ≡ false → out.new ≡ out.old }
     ensures kept { Keeps handle.old handle.new }
 {
-    let table = table_of!(handle, false);
-    write_found!(table.bytes_at(Symbol::new(symbol)), bytes => out = Spelling::of(bytes))
+    write_found!(table_of!(handle, false).bytes_at(Symbol::new(symbol)), bytes => out = Spelling::of(bytes))
 }
 
 /// Writes how many bytes a symbol has, and copies them to the start of a buffer that has space for them.
@@ -81,15 +74,10 @@ pub extern "C" fn intaglio_copy(
     ensures unwritten { result ≡ false → len.new ≡ len.old }
     ensures kept { Keeps handle.old handle.new }
 {
-    let table = table_of!(handle, false);
-    match table.bytes_at(Symbol::new(symbol)) {
-        Some(bytes) => {
-            *len = bytes.len();
-            fill(buffer, bytes);
-            true
-        }
-        None => false,
-    }
+    write_found!(table_of!(handle, false).bytes_at(Symbol::new(symbol)), bytes => len = {
+        fill(buffer, bytes);
+        bytes.len()
+    })
 }
 
 /// Interns a batch of strings, all or none, and writes their symbols.

@@ -1,16 +1,13 @@
 //! Making and freeing tables; length and capacity, and the calls that change them.
-ghost use Rattle.std.specs.Prelude.{◌≡◌};
-ghost use Rattle.intaglio_c.specs.Cited.{with_keys, IsCodeOf, ChangesWithCode, Clears, HoldsNone, Keeps, MakesSized, capacity, count, table_of, Capacity, Limit, Reserves, Shrinks, TakesBack};
+ghost use Rattle.std.specs.Prelude.{◌≡◌, ◌+◌};
+ghost use Rattle.intaglio_c.specs.Cited.{with_keys, IsCodeOf, ChangesWithCode, Clears, HoldsNone, Keeps, Makes, kind_of, length, option_map, table_of, unwrap_or, Capacity, Limit, Reserves, Shrinks, TakesBack};
 
 use crate::any_table::size::Size;
 use crate::handle::Handle;
-use crate::refusal::{Refusal, code, failed, mark_answer, room_answer};
+use crate::refusal::{Refusal, code, failed};
 use intaglio_core::Mark;
 use intaglio_hash::KeyedState;
 use std::alloc::Global;
-
-/// The capacity of a new table.
-const DEFAULT_CAPACITY: usize = 4096;
 
 /// Puts a new table of a kind with capacity 4096 into the handle, whose earlier table is freed.
 /// Fails with `NoKind` for a number that is no kind's, and `NoMemory`; then the handle holds no table.
@@ -22,10 +19,9 @@ pub extern "C" fn intaglio_new(
     key0: u64,
     key1: u64,
 ) -> u32
-    ensures made { IsCodeOf result (MakesSized kind (Capacity 4096) (with_keys key0 key1) handle.new) }
+    ensures made { IsCodeOf result (Makes (kind_of kind) (Capacity 4096) (with_keys key0 key1) handle.new) }
 {
-    let size = Size::Capacity(DEFAULT_CAPACITY);
-    code(handle.make(alloc, kind, size, KeyedState::with_keys(key0, key1)))
+    intaglio_with_capacity(alloc, handle, kind, 4096, key0, key1)
 }
 
 /// Puts a new table of a kind with exactly this capacity into the handle, whose earlier table is freed.
@@ -39,7 +35,8 @@ pub extern "C" fn intaglio_with_capacity(
     key0: u64,
     key1: u64,
 ) -> u32
-    ensures made { IsCodeOf result (MakesSized kind (Capacity capacity) (with_keys key0 key1) handle.new) }
+    ensures made { IsCodeOf result
+        (Makes (kind_of kind) (Capacity capacity) (with_keys key0 key1) handle.new) }
 {
     let keys = KeyedState::with_keys(key0, key1);
     code(handle.make(alloc, kind, Size::Capacity(capacity), keys))
@@ -56,7 +53,7 @@ pub extern "C" fn intaglio_with_limit(
     key0: u64,
     key1: u64,
 ) -> u32
-    ensures made { IsCodeOf result (MakesSized kind (Limit limit) (with_keys key0 key1) handle.new) }
+    ensures made { IsCodeOf result (Makes (kind_of kind) (Limit limit) (with_keys key0 key1) handle.new) }
 {
     let keys = KeyedState::with_keys(key0, key1);
     code(handle.make(alloc, kind, Size::Limit(limit), keys))
@@ -73,7 +70,7 @@ pub extern "C" fn intaglio_free(alloc: Global, handle: &mut Handle)
 /// The number of contents, or 0 without a table.
 #[unsafe(no_mangle)]
 pub extern "C" fn intaglio_len(handle: &mut Handle) -> usize
-    ensures count { result ≡ count (table_of handle.old) }
+    ensures count { result ≡ unwrap_or (option_map (λ t. length t.state.contents) (table_of handle.old)) 0 }
     ensures kept { Keeps handle.old handle.new }
 {
     table_of!(handle, 0).len()
@@ -82,7 +79,8 @@ pub extern "C" fn intaglio_len(handle: &mut Handle) -> usize
 /// How many contents the table can hold before it has to grow, or 0 without a table.
 #[unsafe(no_mangle)]
 pub extern "C" fn intaglio_capacity(handle: &mut Handle) -> usize
-    ensures capacity { result ≡ capacity (table_of handle.old) }
+    ensures capacity { result ≡
+        unwrap_or (option_map (λ t. length t.state.contents + t.state.spare) (table_of handle.old)) 0 }
     ensures kept { Keeps handle.old handle.new }
 {
     table_of!(handle, 0).capacity()
@@ -94,7 +92,7 @@ pub extern "C" fn intaglio_capacity(handle: &mut Handle) -> usize
 pub extern "C" fn intaglio_reserve(handle: &mut Handle, additional: usize) -> u32
     ensures step { ChangesWithCode handle.old handle.new result (Reserves additional) }
 {
-    code(room_answer(table_of!(handle).reserve(additional)))
+    code(table_of!(handle).reserve(additional).map_err(Refusal::from))
 }
 
 /// Shrinks the capacity to `min_capacity`, or to the number of contents if that is greater.
@@ -103,7 +101,8 @@ pub extern "C" fn intaglio_reserve(handle: &mut Handle, additional: usize) -> u3
 pub extern "C" fn intaglio_shrink_to(handle: &mut Handle, min_capacity: usize) -> u32
     ensures step { ChangesWithCode handle.old handle.new result (Shrinks min_capacity) }
 {
-    code(room_answer(table_of!(handle).shrink_to(min_capacity)))
+    let shrunk = table_of!(handle).shrink_to(min_capacity);
+    code(shrunk.map_err(Refusal::from))
 }
 
 /// Drops all contents.
@@ -120,5 +119,6 @@ pub extern "C" fn intaglio_clear(handle: &mut Handle)
 pub extern "C" fn intaglio_take_back(handle: &mut Handle, mark: usize) -> u32
     ensures step { ChangesWithCode handle.old handle.new result (TakesBack mark) }
 {
-    code(mark_answer(table_of!(handle).take_back(Mark::new(mark))))
+    let taken = table_of!(handle).take_back(Mark::new(mark));
+    code(taken.or(Err(Refusal::Stale)))
 }

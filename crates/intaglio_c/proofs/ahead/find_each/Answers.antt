@@ -1,4 +1,5 @@
--- Each turn looks up one string more.
+-- Each turn looks up one string more by its hash, which `look_ahead` made, and writes its number behind
+-- those so far. At the end there is a number for each string.
 use Rattle.intaglio_c.proofs.Names.{◌<◌, common_steps, rules, ◌∙◌, length, inr, arith, all_first, first_ahead, more}
 use Rattle.intaglio_c.proofs.ahead.find_each.Goals as goal
 

@@ -1,3 +1,4 @@
+-- Each string so far has its number, and the hashes that are left are those of the strings that come next.
 use Rattle.intaglio_c.proofs.Names.{◌≡◌, length, take, drop, AreFirst, Continues}
 use Rattle.intaglio_c.proofs.ahead.find_each.Given as goal
 

@@ -1,3 +1,4 @@
+-- Whether the ends that are left are in order behind the last one is whether all are.
 use Rattle.intaglio_c.proofs.Names.{◌≡◌, drop, are_ends}
 use Rattle.intaglio_c.proofs.batch.are_ends.Given as goal
 

@@ -1,4 +1,4 @@
--- The identities so far.
+-- The list has the identity of each reference so far, in order.
 use Rattle.std.proofs.Common.{◌≡◌, map, take}
 use Rattle.intaglio_c.specs.Cited.{own_id}
 use Rattle.intaglio_c.proofs.reference.ids_of.Given as goal

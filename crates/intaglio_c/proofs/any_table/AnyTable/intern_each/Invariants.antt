@@ -1,3 +1,4 @@
+-- The strings so far are interned, and the hashes that are left are those of the strings that come next.
 use Rattle.intaglio_c.proofs.Names.{◌≡◌, length, take, drop, AreFirst, IsHash, seen}
 use Rattle.intaglio_c.proofs.Batches.{Begins}
 use Rattle.intaglio_c.proofs.any_table.AnyTable.intern_each.Given as goal

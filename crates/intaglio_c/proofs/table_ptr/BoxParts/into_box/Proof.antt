@@ -1,4 +1,5 @@
--- The callee makes a box again of its pointer and its allocator, and of what the box owned.
+-- The parts own what `from_raw` requires of a pointer and an allocator, and it makes a box of them that owns
+-- it.
 use Rattle.intaglio_c.proofs.Walks.{◌≡◌, ◌∷◌, ◌++◌, IsT, refl, sym, ap, subst, List, [], inst_fn, a_type, dcons, dnil, Val, has_ty, WT, ftrue, flft, id⊢, emp, WpFn, ‵, raw, ◌⊛◌, some, later, prop, at_ret, ◌$◌, ◌∵◌, !, qed, done, move, keep, drop, split, join, fsplit, fjoin, regoal, rewrite, suffices, pick, await, use0, use1, feq_i, enter, stop, fld, of_opd, no_more, and_then, first, blocks, exec, returns, alloc_all, pass_all, free_all, look_at, get, get_in, sets, lands_last, env, sub, whole, ◌⊑◌, fact, fact_i, tables, no, param, bounded, layout, param_laws, rawptr_Lawful, ptr_val, plain, nothing, only, heard, calls_at_last, Lasts, lasts, triple_of, framed, Stays, walk_of, says, stay_dropped, ends_at, Goes-blank, proved_at, box_of, word_fits, pair_out, pair_in, parts_of}
 use Rattle.std.below.core.proofs.alloc.Shapes.{after}
 use Rattle.std.specs.contracts.boxed.Box.from_raw as callee
@@ -31,7 +32,7 @@ into_box_spec 𝓤 𝓛 𝓜 𝓡 wired T A T-laws A-laws g d dd allocates frees
     pair_out ! allocator laws s.ptr s.alloc vs (λ h is fits. let typed = word_fits allocator 𝓛 s.ptr h fits in
     -- [the allocator; the value behind the pointer, and the right to free it; the tokens]
     regoal ! (λ (us : List Val). prop (WpFn 𝓤 𝓛.H 𝓣.C 𝓣.Λ fn (us ++ []) (W.post y))) is refl $
-    enter ! _ _ _ _ _ $ alloc_all ! (λ l. pass_all ! refl (typed, tt) $
+    enter ! _ _ fn _ _ $ alloc_all ! (λ l. pass_all ! refl (typed, tt) $
     sets ! (of_opd ! (get_in ! (fld ! refl (stop !)) (sub ! 0 refl (whole !)))) refl
     ((rawptr_Lawful 𝓛).typed s.ptr _ refl).0 $
     sets ! (of_opd ! (get_in ! (fld ! refl (stop !)) (sub ! 1 refl (whole !)))) refl fits $

@@ -1,4 +1,5 @@
--- A box is taken apart: the callee hands out its pointer and its allocator, and what the box owned.
+-- `into_raw_with_allocator` hands out the box's pointer and allocator, and what the box owned, which the
+-- parts then own.
 use Rattle.intaglio_c.proofs.Walks.{◌≡◌, ◌∷◌, ◌++◌, refl, sym, ap, List, [], inst_fn, a_type, dcons, dnil, Val, ftrue, flft, id⊢, emp, WpFn, ‵, raw, ◌⊛◌, some, later, prop, ◌$◌, ◌∵◌, !, qed, done, move, keep, drop, split, join, fsplit, fjoin, regoal, rewrite, suffices, pick, await, use0, use1, enter, stop, fld, of_opd, no_more, and_then, returns, alloc_all, pass_all, free_all, look_at, get, get_in, sets, lands_as, agg, sub, whole, ◌⊑◌, fact, fact_i, tables, no, param, bounded, param_laws, Ptr, RawPtr, rawptr_Lawful, plain, nothing, only, heard, calls_at, Lasts, lasts, triple_of, framed, Stays, walk_of, says, stay_dropped, ends_at, Goes-blank, proved_at, box_of, word, word_fits, pair_out, pair_in, parts_of}
 use denote.Struct.Tuple.{Tuple}
 use Rattle.std.specs.Box.Ownership.{box_owns}
@@ -34,7 +35,7 @@ of_spec 𝓤 𝓛 𝓜 𝓡 wired T A T-laws A-laws g d dd dx allocates frees dr
     pair_in ! allocator b.ptr b.alloc h $ fjoin ! $
     -- [the box; the tokens]
     regoal ! (λ (us : List Val). prop (WpFn 𝓤 𝓛.H 𝓣.C 𝓣.Λ fn (us ++ []) (W.post y))) is refl $
-    enter ! _ _ _ _ _ $ alloc_all ! (λ l. pass_all ! refl (typed, tt) $
+    enter ! _ _ fn _ _ $ alloc_all ! (λ l. pass_all ! refl (typed, tt) $
     sets ! (of_opd ! (get ! refl)) refl typed $
     nothing ! $ move ! (1 ∷ 0 ∷ []) $ join ! $ move ! (1 ∷ 0 ∷ []) $ join ! $
     nothing ! $ use0 𝓛 (raw (fact 𝓤 A-lives)) (fact_i 𝓤 A-lives (emp 𝓤) outlives') $ join ! $ use0 𝓛

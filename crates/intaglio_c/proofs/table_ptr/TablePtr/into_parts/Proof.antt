@@ -1,4 +1,4 @@
--- The parts of the box that a pointer was made of.
+-- There is a table, and the cast changes only the pointer's type. So the parts own what the pointer owned.
 use Rattle.intaglio_c.proofs.Walks.{◌∷◌, ◌++◌, there, refl, sym, List, [], Val, ftrue, WpFn, ‵, raw, ◌⊛◌, prop, ◌$◌, ◌∵◌, !, qed, done, move, keep, split, join, fsplit, fjoin, regoal, rewrite, suffices, enter, stop, fld, of_opd, no_more, and_then, returns, alloc_all, pass_all, free_all, look_at, get, get_in, sets, agg, sub, whole, fact, tables, rawptr_Lawful, plain, nothing, heard, Stays, walk_of, says, stay_dropped, ends_at, Goes-blank, proved_at, IsSomeAnd, ⊤, allocator, the_row_laws, ghosts, Option, word, word_fits, pair_out, pair_in, ptr_owns, any_table, parts_of, table_ptr}
 use Rattle.intaglio_c.specs.contracts.table_ptr.TablePtr.into_parts as f
 use Rattle.intaglio_c.proofs.table_ptr.TablePtr.into_parts.Statement.{statement}
@@ -23,7 +23,7 @@ into_parts_spec 𝓤 𝓛 𝓜 𝓡 wired =
     rewrite ! 1 (λ (v : Option any_table.Denot). ‵ (ptr_owns a p v)) is_x refl $
     -- [the allocator; the value behind the pointer, and the right to free it]
     regoal ! (λ (us : List Val). prop (WpFn 𝓤 𝓛.H 𝓣.C 𝓣.Λ code.function (us ++ []) (W.post y))) is refl $
-    enter ! _ _ _ _ _ $ alloc_all ! (λ l. pass_all ! refl (typed, tt) $
+    enter ! _ _ code.function _ _ $ alloc_all ! (λ l. pass_all ! refl (typed, tt) $
     sets ! (of_opd ! (get_in ! (fld ! refl (stop !)) (sub ! 0 refl (whole !)))) refl
     ((rawptr_Lawful 𝓛).typed p _ refl).0 $
     sets ! (of_opd ! (get_in ! (fld ! refl (stop !)) (sub ! 1 refl (whole !)))) refl fits $

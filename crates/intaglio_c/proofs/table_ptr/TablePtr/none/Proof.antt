@@ -1,4 +1,5 @@
--- A null pointer owns nothing.
+-- The pointer is null and its table `None`, which owns nothing. So all that the struct owns is the
+-- allocator.
 use Rattle.intaglio_c.proofs.Walks.{◌∷◌, refl, [], lit<, ftrue, ‵, ◌⊛◌, ◌$◌, ◌∵◌, !, qed, done, move, keep, split, join, fjoin, suffices, enter, of_opd, lit, no_more, and_then, returns, alloc_all, pass_all, free_all, look_at, get, sets, agg, yes, null_ptr, plain, nothing, Stays, walk_of, says, stay_dropped, Goes-dropped, ends_at, proved, allocator, lowers, None, word, pair_in, table_ptr}
 use Rattle.intaglio_c.specs.contracts.table_ptr.TablePtr.none as f
 use Rattle.intaglio_c.proofs.table_ptr.TablePtr.none.Statement.{statement}
@@ -16,7 +17,7 @@ none_spec 𝓤 𝓛 𝓜 𝓡 wired =
     qed 𝓛 ((‵ ftrue ⊛ (‵ (allocator.own_val a (h ∷ [])) ⊛ ‵ ftrue)) ∷ ‵ ftrue ∷ []) ∵
     split ! $ move ! (1 ∷ []) $ split ! $ keep ! (0 ∷ []) $
     -- [the allocator]
-    enter ! _ _ _ _ _ $ alloc_all ! (λ l. pass_all ! refl ((tt, ((tt, tt), tt)), tt) $
+    enter ! _ _ code.function _ _ $ alloc_all ! (λ l. pass_all ! refl ((tt, ((tt, tt), tt)), tt) $
     sets ! (of_opd ! (lit ! tt)) refl (tt, record { fits = lit< tt }) $
     sets ! (agg ! (and_then ! (get ! refl) (and_then ! (get ! refl) (no_more !)))) refl (
       tt,

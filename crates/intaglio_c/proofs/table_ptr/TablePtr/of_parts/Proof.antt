@@ -1,4 +1,5 @@
--- The parts of a box, behind a pointer that says no type.
+-- The cast changes only the pointer's type. So the pointer owns what the parts owned: the table, and the
+-- right to free it.
 use Rattle.intaglio_c.proofs.Walks.{◌∷◌, ◌++◌, refl, List, [], Val, ftrue, WpFn, ‵, ◌⊛◌, prop, ◌$◌, ◌∵◌, !, qed, done, move, keep, split, join, fsplit, fjoin, regoal, suffices, enter, stop, fld, of_opd, no_more, and_then, returns, alloc_all, pass_all, free_all, look_at, get, get_in, sets, agg, sub, whole, tables, rawptr_Lawful, plain, nothing, Stays, walk_of, says, stay_dropped, ends_at, Goes-blank, proved_at, allocator, the_row_laws, ghosts, Some, word, word_fits, pair_out, pair_in, any_table, parts_of, table_ptr}
 use Rattle.intaglio_c.specs.contracts.table_ptr.TablePtr.of_parts as f
 use Rattle.intaglio_c.proofs.table_ptr.TablePtr.of_parts.Statement.{statement}
@@ -18,7 +19,7 @@ of_parts_spec 𝓤 𝓛 𝓜 𝓡 wired =
     pair_out ! allocator the_row_laws p a vs (λ h is fits. let typed = word_fits allocator 𝓛 p h fits in
     -- [the allocator; the value behind the pointer, and the right to free it]
     regoal ! (λ (us : List Val). prop (WpFn 𝓤 𝓛.H 𝓣.C 𝓣.Λ code.function (us ++ []) (W.post y))) is refl $
-    enter ! _ _ _ _ _ $ alloc_all ! (λ l. pass_all ! refl (typed, tt) $
+    enter ! _ _ code.function _ _ $ alloc_all ! (λ l. pass_all ! refl (typed, tt) $
     sets ! (of_opd ! (get_in ! (fld ! refl (stop !)) (sub ! 0 refl (whole !)))) refl
     ((rawptr_Lawful 𝓛).typed p _ refl).0 $
     sets ! (of_opd ! (get_in ! (fld ! refl (stop !)) (sub ! 1 refl (whole !)))) refl fits $

@@ -1,4 +1,5 @@
--- The table behind the pointer, which a `&mut` to a `TablePtr` lends. The pointer itself isn't written.
+-- Who borrows the pointer borrows what it owns, so the table behind it can be lent. The pointer itself isn't
+-- written: when the table's borrow ends, it owns the table as that then is.
 use Rattle.intaglio_c.proofs.Walks.{◌∷◌, ◌++◌, there, refl, sym, List, [], named, Val, vptr, Fml, GName, ftrue, flft, fsep, ent, sep, id⊢, WpFn, sem, ‵, raw, ◌⊛◌, some, later, prop, at_ret, ◌$◌, ◌∵◌, !, qed, done, move, keep, use1, split, join, await, pick, fsplit, fsplit3, fjoin, fpack, feq_l, regoal, rewrite, suffices, frame, group, whole, sub, look_in, enter, load, stop, fld, of_opd, addr, first, blocks, exec, returns, alloc_all, pass_all, free_all, look_at, get, through, sets, sets_last, env, fact, tables, no, Ptr, lies_at, in_a_block, plain, nothing, heard, opens, Stays, walk_of, says, stay_dropped, Goes-spent_ref, ends_at, the_row_laws, proved_at, IsSomeAnd, ⊤, allocator, ghosts, Option, word, pair_out, pair_in, ptr_owns, any_table, table_ptr}
 use Prim.Native.Nat.{ℕ}
 use mir.Raw.{raw as bare}
@@ -34,7 +35,7 @@ table_mut_spec 𝓤 𝓛 𝓜 𝓡 wired =
     split ! $ split ! $ move ! (2 ∷ []) $ split ! $ keep ! (0 ∷ 2 ∷ []) $ fsplit3 ! $ feq_l ! (λ is.
     -- [the value; the borrow; the token]
     regoal ! (λ (us : List Val). prop (WpFn 𝓤 𝓛.H 𝓣.C 𝓣.Λ code.function (us ++ []) (W.post y))) is refl $
-    enter ! _ _ _ _ _ $ alloc_all ! (λ l. pass_all ! refl ((tt, tt), tt) $
+    enter ! _ _ code.function _ _ $ alloc_all ! (λ l. pass_all ! refl ((tt, tt), tt) $
     opens ! tt table_ptr b o (λ us. move ! (1 ∷ []) $ fsplit ! $ pair_out ! allocator the_row_laws d.ptr
     d.alloc us (λ h is_word fits.
     rewrite ! 1 (λ (v : Option any_table.Denot). ‵ (ptr_owns d.alloc d.ptr v)) is_x refl $
