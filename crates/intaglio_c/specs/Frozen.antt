@@ -6,7 +6,7 @@ use Rattle.intaglio_frozen.specs.Freezing.{IsRefusal}
 use Rattle.intaglio_frozen.specs.Layout.{strings, count, shards}
 use Rattle.intaglio_frozen.specs.declared.error.FreezeError.TheVariants as error
 use Rattle.intaglio_frozen.specs.declared.error.FrozenError.TheVariants as fault
-use Rattle.intaglio_frozen.specs.declared.kind.Kind.TheVariants as frozen
+use Rattle.intaglio_frozen.specs.declared.kind.FrozenKind.TheVariants as frozen
 use Rattle.intaglio_c.specs.Batches.{Either, FindsBy, InternsOr, IsRolledBack, or_absent}
 use Rattle.intaglio_c.specs.Handles.{Handle, GivesMade, table_of}
 use Rattle.intaglio_c.specs.Seen.{rule_of, Seen}

@@ -30,7 +30,7 @@ pub use Rattle.intaglio_frozen.specs.Shards.{shard_of}
 pub use Rattle.intaglio_frozen.specs.declared.error.FreezeError.{FreezeError}
 pub use Rattle.intaglio_frozen.specs.declared.error.FrozenError.{FrozenError}
 pub use Rattle.intaglio_frozen.specs.declared.id.DictionaryId.{DictionaryId}
-pub use Rattle.intaglio_frozen.specs.declared.kind.Kind.{Kind as FrozenKind}
+pub use Rattle.intaglio_frozen.specs.declared.kind.FrozenKind.{FrozenKind}
 pub use Rattle.intaglio_frozen.specs.declared.sections.Sections.{Sections}
 pub use Rattle.intaglio_frozen.specs.declared.set_id.Place.{Place}
 pub use Rattle.intaglio_frozen.specs.declared.set_id.SetId.{SetId}

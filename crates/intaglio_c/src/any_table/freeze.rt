@@ -5,7 +5,7 @@ ghost use Rattle.intaglio_c.specs.Cited.{frozen_kind, contents_of};
 use super::AnyTable;
 use crate::kind::Rule;
 use intaglio_core::Symbol;
-use intaglio_frozen::{Kind, StringList};
+use intaglio_frozen::{FrozenKind, StringList};
 
 impl StringList for AnyTable {
     ghost strings = { λ table. contents_of table };
@@ -24,11 +24,11 @@ impl StringList for AnyTable {
 }
 
 // What strings of a rule are in a frozen table.
-pub(crate) fn frozen_kind(rule: Rule) -> Kind
+pub(crate) fn frozen_kind(rule: Rule) -> FrozenKind
     ensures kind { result ≡ frozen_kind rule }
 {
     match rule {
-        Rule::Text => Kind::Text,
-        Rule::Bytes | Rule::CStr => Kind::Bytes,
+        Rule::Text => FrozenKind::Text,
+        Rule::Bytes | Rule::CStr => FrozenKind::Bytes,
     }
 }

@@ -13,7 +13,7 @@ use crate::refusal::{Refusal, code, done, failed};
 use crate::spelling::{Spelling, give};
 use intaglio_core::Symbol;
 use intaglio_frozen::{
-    DictionaryId, Frozen, Header, Kind, Place, Sections, TrustedFrozen, freeze_at,
+    DictionaryId, Frozen, FrozenKind, Header, Place, Sections, TrustedFrozen, freeze_at,
 };
 use std::alloc::Global;
 
@@ -85,7 +85,7 @@ pub extern "C" fn intaglio_own_id(handle: &mut Handle, id: &mut Reference) -> u3
     ensures kept { Keeps handle.old handle.new }
 {
     let table = table_of!(handle);
-    let is_text = frozen_kind(table.rule()) == Kind::Text;
+    let is_text = frozen_kind(table.rule()) == FrozenKind::Text;
     *id = Reference::of(DictionaryId::of_list(is_text, &*table), 1, 0);
     code(done())
 }
@@ -152,7 +152,7 @@ pub extern "C" fn intaglio_frozen_is_text(bytes: &[u8]) -> bool
     ensures kind { HasHeader bytes.now → IsTrue result ↔ (kind bytes.now ≡ text_kind) }
     ensures none { ¬ HasHeader bytes.now → result ≡ false }
 {
-    value_or!(Header::read(bytes), false).kind == Kind::Text
+    value_or!(Header::read(bytes), false).kind == FrozenKind::Text
 }
 
 /// Writes what the header of a frozen table says, and where its sections are, for the two calls below.
