@@ -4,7 +4,7 @@ ghost use Rattle.intaglio.specs.Keys.{bytes_key};
 ghost use Rattle.intaglio.specs.Lookup.{Keeps};
 ghost use Rattle.example_interpreter.specs.Spelled.{spelled, text_of};
 
-use crate::token::{TokenKind, Token};
+use crate::token::{Token, TokenKind};
 use intaglio::bytes::{BytesContent, SymbolTable};
 use intaglio::laws::valid_law;
 use intaglio::{InternError, Symbol, TableError};
@@ -102,5 +102,7 @@ fn kind_of(text: Symbol, lexeme: &[u8]) -> TokenKind {
     if (text.id() as usize) < KEYWORDS.len() {
         return TokenKind::Keyword;
     }
-    lexeme.first().map_or(TokenKind::Blank, |byte| begins(*byte))
+    lexeme
+        .first()
+        .map_or(TokenKind::Blank, |byte| begins(*byte))
 }

@@ -17,7 +17,7 @@ use intaglio::{StrContent, SymbolTable, bytes};
 use lexer::{lex, table_of_keywords};
 use scopes::{declare, visit};
 use std::str;
-use token::{TokenKind, Token};
+use token::{Token, TokenKind};
 
 const SOURCE: &str = "let x1 = x + 12;\nwhile x1 { x = x1; }\n";
 

@@ -3,7 +3,7 @@
 ghost use Rattle.std.specs.Prelude.{◌≡◌, refl, IsUtf8, string_bytes};
 ghost use Rattle.example_names.specs.Letters.{letters, name_text};
 
-use intaglio::{ContentOf, Keyed, StringKind, KindForm, KindOwned, Packable, PackedForm, Spells};
+use intaglio::{ContentOf, Keyed, KindForm, KindOwned, Packable, PackedForm, Spells, StringKind};
 use std::alloc::{AllocError, Global};
 use std::hash::Hasher;
 use std::str;

@@ -21,10 +21,9 @@ pub use error::TableError;
 pub use intaglio_core::{
     AddedTo, AllSymbols, BaseInterner, ByteStore, Call, Content, ContentOf, Copied, CopiedTo, Core,
     DEFAULT_SYMBOL_TABLE_CAPACITY, Forms, Index, IndexOf, Indexed, IndexedStore, InternError,
-    Interner, Keyed, StringKind, KindForm, KindOwned, Lends, LookedUpIn, Mark, Moved, Packable,
-    PackedForm, Pairs, Reply, RoomError, Sought, SoughtIn, Spelled, SpelledStore, Spells,
-    StaleMark, Store, Symbol, SymbolOverflowError, Work, check_all, get_or_intern_all, intern_all,
-    run,
+    Interner, Keyed, KindForm, KindOwned, Lends, LookedUpIn, Mark, Moved, Packable, PackedForm,
+    Pairs, Reply, RoomError, Sought, SoughtIn, Spelled, SpelledStore, Spells, StaleMark, Store,
+    StringKind, Symbol, SymbolOverflowError, Work, check_all, get_or_intern_all, intern_all, run,
 };
 pub use intaglio_text::StrContent;
 pub use table::{Table, TableOver};

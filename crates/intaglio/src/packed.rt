@@ -6,7 +6,7 @@
 //! they hash with `intaglio_hash::FixedState`, which has the hashes of the other tables' default: hash and
 //! comparison together take less time with it in these tables.
 use crate::{Forms, Pairs, TableOver};
-pub use intaglio_content::{StringKind, KindOwned, Packable, PackedForm, Spelling};
+pub use intaglio_content::{KindOwned, Packable, PackedForm, Spelling, StringKind};
 use intaglio_hash::FixedState;
 pub use intaglio_packed::Packed;
 pub use intaglio_text::StrKind;

@@ -247,7 +247,11 @@ impl<D: WholeDictionary> Encoding<'_, D> {
 
 // The lines at the front of the bytes: a group of them, or all that are whole if they are fewer. So many
 // bytes at the front have no line end.
-fn first_lines<'a>(alloc: Global, bytes: &'a [u8], seen: usize) -> Result<FrontLines<'a>, TranslateError>
+fn first_lines<'a>(
+    alloc: Global,
+    bytes: &'a [u8],
+    seen: usize,
+) -> Result<FrontLines<'a>, TranslateError>
     requires within { seen ≤ length bytes.now }
     requires seen { HasNoEnd (take seen bytes.now) }
     ensures whole { IfOk result (λ group.

@@ -29,7 +29,7 @@ pub use content_of::ContentOf;
 pub use feed::feed_item;
 pub use forms::Forms;
 pub use growth::doubled;
-pub use kind::{StringKind, KindForm, KindOwned, Packable, PackedForm, Spells};
+pub use kind::{KindForm, KindOwned, Packable, PackedForm, Spells, StringKind};
 pub use of_kind::OfKind;
 pub use pairs::Pairs;
 pub use same::same_bytes;

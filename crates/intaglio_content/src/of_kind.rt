@@ -1,6 +1,6 @@
 //! The kind of a content.
 use crate::content_of::ContentOf;
-use crate::kind::{StringKind, KindOwned};
+use crate::kind::{KindOwned, StringKind};
 use crate::spelling::Spelling;
 
 /// A content that is of a kind, which decides how its tables call the iterator over their

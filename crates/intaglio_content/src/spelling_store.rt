@@ -5,7 +5,7 @@ ghost use Rattle.std.proofs.lemmas.Bool.{true≢false};
 ghost use Rattle.intaglio_content.specs.Store.{byte_room, IsPushed};
 
 use crate::content::Keyed;
-use crate::kind::{StringKind, Packable, Spells};
+use crate::kind::{Packable, Spells, StringKind};
 use crate::spelling::Spelling;
 use crate::store::{AddedTo, ByteStore, Copied, CopiedTo, SoughtIn, Store};
 use crate::work::Work;

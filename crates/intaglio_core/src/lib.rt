@@ -16,9 +16,9 @@ pub use index_of::{IndexOf, Indexed};
 pub use indexed_store::{Core, IndexedStore, SYMBOLS};
 pub use intaglio_bytes::bytes::BytesContent;
 pub use intaglio_content::{
-    AddedTo, ByteStore, Content, ContentOf, Copied, CopiedTo, Forms, Keyed, StringKind, KindForm,
-    KindOwned, Lends, LookedUpIn, Moved, Packable, PackedForm, Pairs, Sought, SoughtIn, Spelled,
-    SpelledStore, Spells, Store, Work, feed_item,
+    AddedTo, ByteStore, Content, ContentOf, Copied, CopiedTo, Forms, Keyed, KindForm, KindOwned,
+    Lends, LookedUpIn, Moved, Packable, PackedForm, Pairs, Sought, SoughtIn, Spelled, SpelledStore,
+    Spells, Store, StringKind, Work, feed_item,
 };
 pub use intaglio_index::Index;
 pub use intaglio_interner::{

@@ -6,7 +6,7 @@ ghost use Rattle.intaglio_cstr.specs.Zeros.{first_zero};
 use crate::c_str::CStr;
 use crate::c_string::CString;
 use intaglio_content::{
-    ContentOf, Keyed, StringKind, KindForm, KindOwned, Packable, Spells, feed_item, same_bytes,
+    ContentOf, Keyed, KindForm, KindOwned, Packable, Spells, StringKind, feed_item, same_bytes,
 };
 use std::alloc::{AllocError, Global};
 use std::hash::Hasher;

@@ -1,13 +1,13 @@
 //! The dictionary of a command: a file, or a folder of shards.
-use crate::io::tables::checked;
 use crate::io::folders::{is_folder, shard_name};
 use crate::io::input::{name_of, whole};
 use crate::io::metered::Meter;
 use crate::io::report;
 use crate::io::report::Tell;
+use crate::io::tables::checked;
 use clap::ArgMatches;
 use intaglio_columns::{ColumnHeader, DictionaryId};
-use intaglio_frozen::{Frozen, Header, FrozenKind, Shards, ShardsError};
+use intaglio_frozen::{Frozen, FrozenKind, Header, Shards, ShardsError};
 use std::rt::Files;
 
 /// The bytes of a dictionary, as they were read.

@@ -1,7 +1,6 @@
 //! What the program `intaglio_dict` reads and writes: its arguments, inputs, outputs and messages.
 
 pub mod apart;
-pub mod tables;
 pub mod command;
 pub mod files;
 pub mod folders;
@@ -15,4 +14,5 @@ pub mod output;
 pub mod replacing;
 pub mod report;
 pub mod symbols;
+pub mod tables;
 pub mod words;

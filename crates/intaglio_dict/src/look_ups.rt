@@ -1,6 +1,5 @@
 //! The subcommands that look lines or symbols up.
 use crate::dictionaries::{DictionaryBytes, first_dictionary, not_trusted, open_shards};
-use crate::io::tables::checked;
 use crate::io::input::{STANDARD_INPUT, name_of};
 use crate::io::metered::{Meter, Metered};
 use crate::io::noticing::Noticing;
@@ -8,6 +7,7 @@ use crate::io::output::OUTPUT;
 use crate::io::report;
 use crate::io::report::Tell;
 use crate::io::symbols::{read_symbols, typed_symbols};
+use crate::io::tables::checked;
 use clap::ArgMatches;
 use intaglio_columns::dictionary::Dictionary;
 use intaglio_columns::error::DictionaryError;

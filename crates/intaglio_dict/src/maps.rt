@@ -5,7 +5,7 @@ use crate::io::output::{Bytes, write_to};
 use crate::io::report;
 use crate::io::report::Tell;
 use intaglio_columns::{ColumnWriteError, RowSource, sourced_column_bytes};
-use intaglio_frozen::{Header, FrozenKind, SetId};
+use intaglio_frozen::{FrozenKind, Header, SetId};
 use intaglio_symbol::Symbol;
 use std::random::RandomSource;
 use std::rt::Files;

@@ -6,7 +6,6 @@ use crate::dictionaries::{
 };
 use crate::freezing::{refusal, write_shards};
 use crate::hashing::random_builder;
-use crate::io::tables::{common_kind, tables_of};
 use crate::io::folders::{is_folder, make_folder, shard_name};
 use crate::io::input::{meter_of, name_of, whole};
 use crate::io::keys::keys_of;
@@ -15,6 +14,7 @@ use crate::io::output::{Bytes, write_to};
 use crate::io::report;
 use crate::io::report::Tell;
 use crate::io::symbols::{plain_number, shards_of};
+use crate::io::tables::{common_kind, tables_of};
 use crate::maps::Maps;
 use crate::progress::Shown;
 use clap::ArgMatches;

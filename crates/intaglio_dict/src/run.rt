@@ -8,12 +8,12 @@ use crate::dictionaries::{
     DictionaryBytes, Reference, first_dictionary, header_of, open_shards, read_dictionary,
 };
 use crate::freezing::freeze;
-use crate::io::tables::checked;
 use crate::io::command::files_of;
 use crate::io::noticing::Noticing;
 use crate::io::output::ended;
 use crate::io::report;
 use crate::io::report::Tell;
+use crate::io::tables::checked;
 use crate::look_ups::{find, get};
 use crate::merging::merge_dictionaries;
 use crate::renumbering::renumber;
@@ -22,7 +22,7 @@ use intaglio_columns::begins_as_column;
 use intaglio_columns::dictionary::WholeDictionary;
 use intaglio_columns::look_up::list;
 use intaglio_columns::size::size_of_strings;
-use intaglio_frozen::{Header, FrozenKind};
+use intaglio_frozen::{FrozenKind, Header};
 use intaglio_lines::error::StreamError;
 use std::io;
 use std::io::Write;
@@ -154,9 +154,8 @@ fn on_dictionary<R: Files + Input + Print + Tell + AllocGlobal>(
     found: &ArgMatches<'_>,
 ) -> u8 {
     match first_dictionary(rt, found) {
-        Ok((name, DictionaryBytes::OfFile(bytes))) if command == "stat" && begins_as_column(&bytes) => {
-            stat_column(rt, name, &bytes)
-        }
+        Ok((name, DictionaryBytes::OfFile(bytes)))
+            if command == "stat" && begins_as_column(&bytes) => { stat_column(rt, name, &bytes) }
         Ok((name, DictionaryBytes::OfFile(bytes))) => on_file(rt, command, name, &bytes),
         Ok((name, DictionaryBytes::OfShards(all))) => on_shards(rt, command, name, &all),
         Err(status) => status,

@@ -10,8 +10,8 @@ use bstr::BStr;
 use intaglio_bytes::b_str::BStrKind;
 use intaglio_bytes::bytes::BytesKind;
 use intaglio_content::{
-    Content, ContentOf, CopiedTo, Keyed, StringKind, KindOwned, Packable, PackedForm, Spelling,
-    SpellingStore, Spells, Store,
+    Content, ContentOf, CopiedTo, Keyed, KindOwned, Packable, PackedForm, Spelling, SpellingStore,
+    Spells, Store, StringKind,
 };
 use intaglio_cstr::{CStrKind, first_zero};
 use intaglio_path::{Path, PathKind};

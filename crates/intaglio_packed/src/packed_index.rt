@@ -8,7 +8,7 @@ ghost use Rattle.intaglio_packed.specs.PackedIndex.{room_with, state_over, Stays
 ghost use Rattle.intaglio_records.specs.Records.{record_room_of};
 
 use crate::packed::Packed;
-use intaglio_content::{AddedTo, ByteStore, Content, StringKind, SoughtIn, Spelling, Store, Work};
+use intaglio_content::{AddedTo, ByteStore, Content, SoughtIn, Spelling, Store, StringKind, Work};
 use intaglio_core::{IndexOf, Indexed};
 use intaglio_records::RecordIndex;
 use intaglio_symbol::Symbol;

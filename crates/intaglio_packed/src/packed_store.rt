@@ -4,7 +4,8 @@ ghost use Rattle.intaglio_records.specs.Records.{hashes_of, strings_of};
 
 use crate::packed::Packed;
 use intaglio_content::{
-    ByteStore, StringKind, Lends, LookedUpIn, PackedForm, SpelledStore, Spelling, SpellingStore, Store,
+    ByteStore, Lends, LookedUpIn, PackedForm, SpelledStore, Spelling, SpellingStore, Store,
+    StringKind,
 };
 use intaglio_records::StringRecords;
 use std::alloc::{AllocError, Global};

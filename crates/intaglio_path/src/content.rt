@@ -4,7 +4,9 @@ ghost use Rattle.intaglio_path.specs.Components.{components};
 ghost use Rattle.intaglio_path.specs.Path.{path_text};
 
 use crate::path::Path;
-use intaglio_content::{ContentOf, Keyed, StringKind, KindForm, KindOwned, Packable, PackedForm, Spells};
+use intaglio_content::{
+    ContentOf, Keyed, KindForm, KindOwned, Packable, PackedForm, Spells, StringKind,
+};
 use std::alloc::{AllocError, Global};
 use std::hash::{Hash, Hasher};
 use std::str;

@@ -2,7 +2,7 @@
 ghost use Rattle.std.specs.Prelude.{[], ◌∷◌, refl, IsUtf8, string_bytes};
 
 use intaglio_content::{
-    ContentOf, StringKind, KindForm, KindOwned, Packable, PackedForm, Spells, feed_item, same_bytes,
+    ContentOf, KindForm, KindOwned, Packable, PackedForm, Spells, StringKind, feed_item, same_bytes,
 };
 use std::alloc::{AllocError, Global};
 use std::hash::Hasher;

@@ -1,9 +1,9 @@
 //! Opens a column and its dictionary, and refuses those that don't belong together.
 use crate::dictionaries::{DictionaryBytes, Reference, first_dictionary, not_trusted, open_shards};
-use crate::io::tables::checked;
 use crate::io::input::{first_input, name_of};
 use crate::io::report;
 use crate::io::report::Tell;
+use crate::io::tables::checked;
 use clap::ArgMatches;
 use intaglio_columns::dictionary::Dictionary;
 use intaglio_columns::{Column, ColumnError};

@@ -58,7 +58,9 @@ fn rows_of_file<R: Files + Input + Print + Tell + AllocGlobal>(
     let (dictionary, table) = first_dictionary(rt, found)?;
     let reference = table.reference(rt, dictionary)?;
     match table {
-        DictionaryBytes::OfFile(bytes) => rows.answer_trusted(rt, name, dictionary, reference, &bytes),
+        DictionaryBytes::OfFile(bytes) => rows.answer_trusted(
+            rt, name, dictionary, reference, &bytes,
+        ),
         DictionaryBytes::OfShards(_all) => Err(not_trusted(rt, dictionary)),
     }
 }

@@ -2,7 +2,7 @@
 use crate::io::input::name_of;
 use crate::io::report;
 use crate::io::report::Tell;
-use intaglio_frozen::{Frozen, Header, FrozenKind};
+use intaglio_frozen::{Frozen, FrozenKind, Header};
 
 /// The dictionary in these bytes, after a check of all of them. Otherwise the exit status after a message.
 pub fn checked<'a, R: Tell>(rt: &R, name: &str, bytes: &'a [u8]) -> Result<Frozen<'a>, u8> {
@@ -30,7 +30,11 @@ pub fn tables_of<'a, R: Tell + AllocGlobal>(
 /// Text if all of the dictionaries are of texts.
 pub fn common_kind(all: &[Vec<u8>]) -> FrozenKind {
     let are_texts = all.iter().all(|bytes| kind_of(bytes) == FrozenKind::Text);
-    if are_texts { FrozenKind::Text } else { FrozenKind::Bytes }
+    if are_texts {
+        FrozenKind::Text
+    } else {
+        FrozenKind::Bytes
+    }
 }
 
 /// The kind of the dictionary in these bytes.

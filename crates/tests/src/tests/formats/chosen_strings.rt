@@ -4,7 +4,9 @@ use super::packing::packed_of;
 use crate::support::kinds::Host;
 use crate::tests::assertions::same;
 use intaglio::packed::{StrKind, SymbolTable};
-use intaglio_frozen::{FreezeError, Header, FrozenKind, StringList, freeze, freeze_with_default_keys};
+use intaglio_frozen::{
+    FreezeError, FrozenKind, Header, StringList, freeze, freeze_with_default_keys,
+};
 use intaglio_hash::KeyedState;
 use std::hash::{BuildHasher, Hasher};
 use std::process::Abort;

@@ -5,7 +5,7 @@ use intaglio::packed::bytes::SymbolTable;
 use intaglio::packed::{Packed, PackedForm};
 use intaglio::{Symbol, TableOver};
 use intaglio_frozen::{
-    DictionaryId, Frozen, FrozenError, Header, FrozenKind, Place, SetId, StringList, TrustedFrozen,
+    DictionaryId, Frozen, FrozenError, FrozenKind, Header, Place, SetId, StringList, TrustedFrozen,
     freeze, freeze_at,
 };
 use intaglio_hash::FixedState;
@@ -208,7 +208,13 @@ fn table_at(rt: &impl Host, set: SetId, shards: u32, shard: u32) -> Vec<u8> {
     let place = Place { set, shards, shard };
     let keys = Some((1, 2));
     assert!(rt; shard < shards);
-    let bytes = freeze_at(rt.alloc(), &strings.as_slice(), FrozenKind::Bytes, keys, place);
+    let bytes = freeze_at(
+        rt.alloc(),
+        &strings.as_slice(),
+        FrozenKind::Bytes,
+        keys,
+        place,
+    );
     bytes.expect(rt, "not frozen")
 }
 

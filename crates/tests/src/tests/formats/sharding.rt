@@ -37,7 +37,10 @@ fn frozen_shards<L: StringList>(rt: &impl Host, list: &L) -> Vec<Vec<u8>> {
     assert!(rt; list.len() == 50);
     let (shards, _map) = split_with_map(rt.alloc(), list, COUNT).expect(rt, "memory");
     for shard in shards {
-        let block = freeze(rt.alloc(), &shard, FrozenKind::Bytes, 1, 2).expect(rt, "a frozen table");
+        let block = freeze(rt.alloc(), &shard, FrozenKind::Bytes, 1, 2).expect(
+            rt,
+            "a frozen table",
+        );
         blocks.push(block).expect(rt, "memory");
     }
     blocks
