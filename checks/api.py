@@ -4,10 +4,9 @@ and for each promise of docs/PROMISES.md its mutants and tests (evidence.md).
 
     checks/api.py [NAME]    (as ./intaglio doc does)
 
-A library's page goes through its files. A type or a call has its declaration, the first paragraph of its documentation, what it
-requires, its errors, and the names of its clauses, which stand below it in the source.
-Prints where the pages are, or with a NAME one of them: that of a library such as `intaglio`, `files`, `evidence`, or the part of
-`evidence` on one promise, by its name in PROMISES.
+On a library's page a type or a call has its declaration, the first paragraph of its documentation, what it requires, its errors,
+and the names of its clauses. Prints where the pages are, or with a NAME one of them: that of a library such as `intaglio`,
+`files`, `evidence`, or the part of `evidence` on one promise, by its name in PROMISES.
 """
 
 import re
@@ -52,7 +51,6 @@ def above(lines, at):
 
 
 def of_contract(every, function):
-    """What a call requires, and the names of its clauses."""
     kinds = {name: text.split()[0].rstrip("*") for name, text in function.clauses.items()}
     for name in (it for it in kinds if kinds[it] == "requires"):
         condition = function.clauses[name].partition("{")[2].rpartition("}")[0]
@@ -97,12 +95,6 @@ def of_library(every, crate):
             yield head + "\n".join(items) + "\n"
 
 
-def of_files(crate):
-    root, *others = sources_of(crate)
-    yield f"## `{crate}`\n\n{wrapped(about(root), '', '')}\n"
-    yield "\n".join(wrapped(f"`{it.relative_to(root.parent)}`: {about(it)}") for it in others) + "\n"
-
-
 def of_promise(every, promise):
     edits = {name: it for name in promise.mutants if (it := sources.one_of(every.mutants, name))}
     lines = [
@@ -118,11 +110,12 @@ def main():
     name, every = arguments.parser(__doc__, name="?").parse_args().name, sources.Sources()
     promises = {it.promise: of_promise(every, it) for it in sources.evidence()}
     libraries = sorted(it.parents[1].name for it in TOP.glob("crates/*/src/lib.rt"))
-    pages = {
-        "files": [FILES, *(part for it in sources.rows_of_crates() for part in of_files(it))],
-        "evidence": [EVIDENCE, *promises.values()],
-        **{it: of_library(every, it) for it in libraries if not sources.NOT_FOR_CALLERS.fullmatch(it)},
-    }
+    pages = {"files": [FILES], "evidence": [EVIDENCE, *promises.values()]}
+    pages |= {it: [*of_library(every, it)] for it in libraries if not sources.NOT_FOR_CALLERS.fullmatch(it)}
+    for crate in sources.rows_of_crates():
+        root, *others = sources_of(crate)
+        of_each = "\n".join(wrapped(f"`{it.relative_to(root.parent)}`: {about(it)}") for it in others)
+        pages["files"] += [f"## `{crate}`\n\n{wrapped(about(root), '', '')}\n", f"{of_each}\n"]
     texts = {page: "\n".join(parts).rstrip() + "\n" for page, parts in pages.items()}
     FOLDER.mkdir(parents=True, exist_ok=True)
     for page, text in texts.items():

@@ -2,11 +2,9 @@
 
 A control rests on the kit and on its edit; on its function with its contract and its proof, and on the files of lemmas that the
 proof reaches; on the headers, with their clauses, of the functions that it calls; and on whatever any of these cites, or that
-cites in turn: types with their impls and ghost members, traits, constants, and definitions of specs. Comments and layout don't
-count, and neither do bodies of other functions. All that has a cited name counts, in the crate and in those below it, whether it
-is meant or not: so nothing is missed, and some controls are tried that needn't be.
-
-controls.txt has for each crate the checksums of all that, of those of its controls that were accepted.
+cites in turn: types with their impls and ghost members, traits, constants, and definitions of specs. Comments, layout and bodies
+of other functions don't count. All that has a cited name counts, in the crate and in those below it, whether it is meant or not:
+so nothing is missed, and some controls are tried that needn't be. controls.txt has the checksums of all that.
 """
 
 import collections

@@ -93,23 +93,16 @@ def load():
 
 
 def crates(top=TOP):
-    """The crates of a repository, each after those that it stands on."""
     return load().rtlib.crates_below(str(top))
 
 
 def wrong_layouts():
     """The files that aren't laid out as `rt fmt` does. (`rt ci` says so only when it comes to the crate, after those below.)"""
-
-    def files_of(crate):
-        with tempfile.TemporaryFile("w+", errors="replace") as wrote:
-            load().rtlib.fmt(crate.folder, "--check", wrote, diff=subprocess.DEVNULL)
-            wrote.seek(0)
-            return NOT_LAID_OUT.findall(wrote.read())
-
-    every = crates()
+    every, checks = crates(), lambda it: load().rtlib.fmt(it.folder, "--check", it.out, diff=subprocess.DEVNULL)
     with ThreadPoolExecutor(processors()) as pool:
-        for crate, files in zip(every, pool.map(files_of, every)):
-            yield from (f"{os.path.relpath(it, TOP)}: not in the layout: run rt fmt in crates/{crate.name}" for it in files)
+        for crate, (_, said) in zip(every, pool.map(lambda it: heard(it, lambda: checks(it)), every)):
+            files = (os.path.relpath(it, TOP) for it in NOT_LAID_OUT.findall(said))
+            yield from (f"{it}: not in the layout: run rt fmt in crates/{crate.name}" for it in files)
 
 
 def is_built(library):
@@ -162,7 +155,8 @@ def provers_outside(name):
 
 def checked(crate, texts, functions, are_spoilt, kept, stubs):
     """What a check of these functions prints, of a copy of the crate with these texts in place of its own, over what `kept`
-    holds. `functions` has for each the one whose proof it takes. If there are stubs, no other function has a proof."""
+    holds, and the first line of that by which the prover can't read a text, or can't use a library's kept work. `functions` has
+    for each the one whose proof it takes. If there are stubs, no other function has a proof."""
     rt, only = load(), [word for function in functions for word in ("--only", function)]
     words = [rt.rtlib.RATTLE, "check", *crate.words(["--jobs", "1", *only], keeps=False), "--incremental", kept]
     with tempfile.TemporaryDirectory(prefix=SCRATCH) as room:
@@ -173,7 +167,8 @@ def checked(crate, texts, functions, are_spoilt, kept, stubs):
         give_proofs(Path(room, "proofs"), functions, are_spoilt, stubs)
         how: dict[str, Any] = {"cwd": room, "stdin": subprocess.DEVNULL, "capture_output": True, "errors": "replace"}
         ran = subprocess.run([*rt.rtlib.guarded(), *words], **how)
-        return ran.stdout + ran.stderr
+    said = ran.stdout + ran.stderr
+    return said, next((it for it in said.splitlines() if rt.unread(it, texts) or rt.rtlib.STALE.search(it)), None)
 
 
 def give_proofs(proofs, functions, are_spoilt, stubs):
@@ -202,12 +197,6 @@ def give_proofs(proofs, functions, are_spoilt, stubs):
                 file.write("\nspoilt : no_such_name\nspoilt = no_such_name\n")
 
 
-def unreadable(said, texts):
-    """The first line by which the prover can't read an edited text, or a library's kept work can't be used."""
-    rt = load()
-    return next((line for line in said.splitlines() if rt.unread(line, texts) or rt.rtlib.STALE.search(line)), None)
-
-
 class Verdicts:
     """What the prover said of edits, in any run on this machine, kept as `rt` keeps what it said of its own, under a sum of the
     kit, the files of the crate and of those below it, the edit and the scripts. Beside an `rt ci` only what was said over the
@@ -225,7 +214,6 @@ class Verdicts:
         return hashlib.sha256(repr((self.stamps.get(crate.name), self.scripts, edit, is_of_ci)).encode()).hexdigest()
 
     def known(self, crate, edit):
-        """What was said of an edit, as it was read, in an earlier run, or nothing."""
         return (self.kept.tried(self.name(crate, edit, self.is_beside_ci)) or (None, None))[1]
 
     def keep(self, crate, edit, said):
@@ -275,10 +263,9 @@ def tested(crate):
 
 def standing_on(names):
     """The crates of these names and those that they stand on, lowest first. No other `rt` works in them from now on."""
-    found, every = [], {it.name: it for it in crates()}
-    for name in names:
-        crate = every.get(name) or sys.exit(f"crates.txt lists no {name}")
-        found += [it for it in [*crate.below(), crate] if it not in found]
+    every = {it.name: it for it in crates()}
+    wanted = [every.get(it) or sys.exit(f"crates.txt lists no {it}") for it in names]
+    found = [*dict.fromkeys(it for crate in wanted for it in (*crate.below(), crate))]
     HELD.append(load().rtlib.lock(found))
     return found
 
