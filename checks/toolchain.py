@@ -52,8 +52,7 @@ RESTING = re.compile(r"declarations? that depends? on `([^`]+)`, which was rejec
 BROKEN_NAME = re.compile(r"has no field|is not in scope|has no `|was not admitted")
 # The answer by which a function is spoilt.
 SPOILT = re.compile(r": error: `spoilt`: ")
-# What provers hold of the memory that `rt` plans for them: what each counts as its own, and its share of what several read. (For
-# each further job `rt` plans .6 more.)
+# What provers hold of the memory that `rt` plans for them: what each counts as its own, and its share of what several read.
 HELD_OF_NEED = 0.5
 # How `rt` names the task of proving a crate.
 PROOF = "proof"
@@ -154,9 +153,8 @@ def provers_outside(name):
 
 
 def checked(crate, texts, functions, are_spoilt, kept, stubs):
-    """What a check of these functions prints, of a copy of the crate with these texts in place of its own, over what `kept`
-    holds, and the first line of that by which the prover can't read a text, or can't use a library's kept work. `functions` has
-    for each the one whose proof it takes. If there are stubs, no other function has a proof."""
+    """What a check prints of these functions, each with the one whose proof it takes, in a copy of the crate with these texts,
+    over what `kept` holds; and the first line by which the prover can't read a text, or can't use a library's kept work."""
     rt, only = load(), [word for function in functions for word in ("--only", function)]
     words = [rt.rtlib.RATTLE, "check", *crate.words(["--jobs", "1", *only], keeps=False), "--incremental", kept]
     with tempfile.TemporaryDirectory(prefix=SCRATCH) as room:
@@ -198,9 +196,8 @@ def give_proofs(proofs, functions, are_spoilt, stubs):
 
 
 class Verdicts:
-    """What the prover said of edits, in any run on this machine, kept as `rt` keeps what it said of its own, under a sum of the
-    kit, the files of the crate and of those below it, the edit and the scripts. Beside an `rt ci` only what was said over the
-    libraries of one counts."""
+    """What the prover said of edits, in any run on this machine, kept as `rt` keeps such, under a sum of the kit, the crate's
+    files and those below it, the edit and the scripts. Beside an `rt ci` only what was said over the libraries of one counts."""
 
     def __init__(self, scripts, is_anew, is_beside_ci):
         self.stamps: dict[str, str] = {}
@@ -309,8 +306,8 @@ def built_static(name):
 
 
 def copied_proofs(repository, names):
-    """Copies what `rt lib` made of these crates, lowest first, to a repository that has the same sources of them, and of those
-    below them. Returns the names of those that are proved there now. No other `rt` works in them from now on."""
+    """Copies what `rt lib` made of these crates, lowest first, to a repository that has the same sources of them and of those
+    below. Returns the names of those that are proved there now. No other `rt` works in them from now on."""
     here, there = ({it.name: it for it in crates(top)} for top in (TOP, repository))
     HELD.append(load().rtlib.lock([of[it] for of in (here, there) for it in names]))
     for mine, theirs in ((here[it], there[it]) for it in names):
@@ -329,8 +326,7 @@ def without_good_news(said):
 
 
 def in_lanes(tasks):
-    """Whether all tasks are done, side by side as memory and processors allow: each has its crate, those for which it waits, its
-    seconds, and a call that is given what was done of all, and jobs."""
+    """Whether all tasks are done, side by side: each has its crate, what it waits for, its seconds, and the call that does it."""
     rt = load()
     every = {(it.name, PROOF): (waits, seconds, HELD_OF_NEED * rt.need(it), call) for it, waits, seconds, call in tasks}
     return all(rt.in_lanes(every).values())
