@@ -9,6 +9,7 @@ and the names of its clauses. Prints where the pages are, or with a NAME one of 
 `files`, `evidence`, or the part of `evidence` on one promise, by its name in PROMISES.
 """
 
+import itertools
 import re
 import sys
 import textwrap
@@ -44,10 +45,8 @@ def paragraphs(lines):
 
 def above(lines, at):
     """What the documentation above a line says."""
-    start = at
-    while start and re.match(r"\s*(//|#\[)", lines[start - 1]):
-        start -= 1
-    return paragraphs([it for it in lines[start:at] if it.lstrip().startswith("///")])
+    block = [*itertools.takewhile(re.compile(r"\s*(//|#\[)").match, reversed(lines[:at]))]
+    return paragraphs([it for it in reversed(block) if it.lstrip().startswith("///")])
 
 
 def of_contract(every, function):

@@ -3,10 +3,10 @@ and what the lists of this folder have. It reads files as `rt fmt` lays them out
 """
 
 import collections
-import dataclasses
 import functools
 import re
 from collections import namedtuple
+from dataclasses import make_dataclass
 from itertools import groupby
 from pathlib import Path
 
@@ -28,8 +28,7 @@ NOT_FOR_CALLERS = re.compile(r"intaglio_c|refused_allocations|bench|tests|exampl
 
 
 # A function: where it is, the impl or trait that it stands in, its clauses by their names, and whether it is a test.
-OF_FUNCTION = ("crate", "file", "line", "owner", "trait", "name", "clauses", "is_test", "text")
-Function = dataclasses.make_dataclass("Function", OF_FUNCTION, frozen=True, eq=False)
+Function = make_dataclass("Function", "crate file line owner trait name clauses is_test text".split(), frozen=True, eq=False)
 # An edit, a mutant or a control: the function that it turns, the clauses by which it is refused, and the promise that it breaks.
 Edit = namedtuple("Edit", "crate kind name path function clauses promise beside file pairs")
 MUTANT, CONTROL = "mutant", "control"
