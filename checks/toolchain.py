@@ -14,7 +14,6 @@ import sys
 import tempfile
 from concurrent.futures import ThreadPoolExecutor
 from pathlib import Path
-from typing import Any
 
 TOP = Path(__file__).resolve().parent.parent
 VERSION = "rattle-kit-13f logic dac8208d650f15bf"
@@ -57,7 +56,7 @@ HELD_OF_NEED = 0.5
 # How `rt` names the task of proving a crate.
 PROOF = "proof"
 # The locks on crates that are held until this process ends.
-HELD: list[Any] = []
+HELD: list = []
 
 
 @functools.lru_cache(maxsize=None)
@@ -163,8 +162,8 @@ def checked(crate, texts, functions, are_spoilt, kept, stubs):
         for path, text in texts.items():
             Path(room, path).write_text(text, encoding="utf-8")
         give_proofs(Path(room, "proofs"), functions, are_spoilt, stubs)
-        how: dict[str, Any] = {"cwd": room, "stdin": subprocess.DEVNULL, "capture_output": True, "errors": "replace"}
-        ran = subprocess.run([*rt.rtlib.guarded(), *words], **how)
+        command, null = [*rt.rtlib.guarded(), *words], subprocess.DEVNULL
+        ran = subprocess.run(command, cwd=room, stdin=null, capture_output=True, errors="replace")
     said = ran.stdout + ran.stderr
     return said, next((it for it in said.splitlines() if rt.unread(it, texts) or rt.rtlib.STALE.search(it)), None)
 
