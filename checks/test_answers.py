@@ -41,10 +41,8 @@ ROWS = [
         "find -", "find - lines -", "get -", "encode -", "decode - part -", "renumber --maps . - --into -",
         "merge - one - -o out",
     )),
-    # Statuses of `find`.
     ("find words", LINES, wrote(NUMBERS)), ("find words", b"word2\nabsent\nword1\n", wrote(b"2\n-\n1\n", 1)),
     ("find words", b"", DONE), ("find words - seventh", b"x\n", wrote(b"-\n7\n", 1)),
-    # Symbols, which are plain numbers.
     ("get words", b"3\n0\n19", wrote(b"word3\nword0\nword19\n")), ("get words", b"007\n", wrote(b"word7\n")),
     ("get words", b"0\n" * 1000, wrote(b"word0\n" * 1000)), ("get words", b"", DONE),
     ("get words", b"0\n20\n", said(1, "words: no string has the symbol 20")), ("get words", NUMBERS, wrote(LINES)),
@@ -62,19 +60,16 @@ ROWS = [
     ("freeze --kind text -o out text wrong text", b"", said(1, "wrong: line 3 is not UTF-8")),
     ("freeze --kind text -o out text -", b"a\nb\nc\xc3", said(1, "standard input: line 3 is not UTF-8")),
     ("get --trusted no 1", b"", said(1, "no: not a frozen table")),
-    # Keys are two numbers.
     *((f"freeze -o out '--keys={it}'", b"", said(2, f"--keys '{it}': two numbers below 2^64 are needed, as in 5,6")) for it in (
         "5", "5,", ",5", "5,6,7", "5;6", "5,x", "1,-2", f"{2**64},0", "", "five",
     )),
     *((f"freeze -o - --keys {key0},{key1}", LINES, wrote(freeze(WORDS, BYTES, key0, key1))) for key0, key1 in (
         (5, 6), (0, 0), (2**64 - 1, 2**64 - 1),
     )),
-    # Merging, and maps.
     ("merge one two -o -", b"", wrote(MERGED)), ("merge - two -o -", FILES["one"], wrote(MERGED)),
     ("merge one two -o - --keys 5,6", b"", wrote(freeze([b"a", b"b", b"c"], BYTES, 5, 6))),
     ("renumber --maps . part", b"", wrote(RENUMBERED)), ("renumber --maps . -", FILES["part"], wrote(RENUMBERED)),
     ("renumber --maps . --into two part", b"", wrote(RENUMBERED)), ("decode two -", RENUMBERED, wrote(b"b\na\n")),
-    # What --verbose and --progress show.
     ("renumber --verbose --maps . part", b"", said(0, "2 codes renumbered", wrote=RENUMBERED)),
     ("encode --verbose one", b"b\na", said(0, "2 lines encoded", wrote=FILES["part"])),
     ("encode --raw --verbose one", b"b\na", said(0, "2 lines encoded", wrote=packed([1, 0]))),
@@ -88,7 +83,6 @@ ROWS = [
     )) for lines in ([b"b", b"a", b"b"], [b"b"], [b"b", b"b"])), ("freeze --verbose -o -", b"\n\n", said(
         0, "2 lines frozen", "1 distinct lines", wrote=freeze([b""]),
     )), ("freeze --verbose -o -", b"", said(0, "0 lines frozen", "0 distinct lines", wrote=freeze([]))),
-    # Columns and plain codes.
     *((f"{it} few codes {row}", b"", said(status, f"codes: {NOT_ONE}"))
       for it, row, status in (("rows", "0", 1), ("count", "", 1), ("match", "a", 2), ("match --count --invert", "a", 2))),
     ("decode --missing ? few column column", b"", wrote((BOTH + b"?\n") * 2)),
@@ -106,7 +100,6 @@ ROWS = [
     )) for it in ("", "-", "x", "1-", "-2x", "2-1", "1-2-3", "+1", " 1", f"{2**64}", "1.5")),
     *((f"{command} --missing '{it}' few column {row}", b"", said(2, NO_LINE_END))
       for command, row in (("decode", ""), ("rows", "0")) for it in ("\n", "a\nb", "a\n")),
-    # Files that aren't there, and folders.
     *((f"{it} absent", b"", said(1, "absent: No such file or directory")) for it in (
         "list", "check", "get", "stat", "freeze -o out", "encode", "encode one", "decode", "decode one",
         "renumber --maps .", "merge -o -", "count few", "check few",
