@@ -4,6 +4,7 @@ import shlex
 
 import pytest
 from formats import BYTES, TEXT, dictionary_of, ended, files_in, freeze, map_of, packed, put
+from programs import unread
 from tool import DONE, ONE_STANDARD_INPUT, UNREAD, WORDS, also_output, other_dictionary, said, wrote
 
 LINES, TABLE, NUMBERS = ended(WORDS), freeze(WORDS), ended(b"%d" % it for it in range(20))
@@ -123,7 +124,7 @@ def test_answers(tool, words, given, wanted):
 @pytest.mark.parametrize("words", ["find words", "get words 1", "list words", "stat words", "freeze -o -", "--help"])
 def test_closed_pipes(tool, words):
     put(".", FILES)
-    assert tool.unread(*words.split(), given=LINES) == UNREAD
+    assert unread([tool.path, *words.split()], LINES) == UNREAD
 
 
 @pytest.mark.parametrize("words, named", [

@@ -17,7 +17,7 @@ from formats import (
     placed, put, read_column, read_dictionary,
 )
 from test_tables import check_commands
-from tool import DONE, NAME, ONE, ROWS, TRUSTED_FOLDER, TWO, WAS, WHOLE, made, other_dictionary, read, said, seen, wrote
+from tool import DONE, NAME, ONE, ROWS, TRUSTED_FOLDER, TWO, WAS, WHOLE, left, made, other_dictionary, read, said, seen, wrote
 
 NO_FILE, CUT = "No such file or directory", "the file is truncated"
 OF_ANOTHER_SET = "whole/1.dict: of another set than whole/0.dict; write both again"
@@ -69,7 +69,7 @@ def check_parts(tool, parts, kind, count):
     check_commands(tool, "whole", whole)
     for command in ("find", "get") if count else ():
         assert tool(command, "--trusted", "whole", given=b"0\n") == said(2, f"whole: {TRUSTED_FOLDER}")
-    assert not [*Path().rglob("*.new")]
+    assert not left()
 
 
 @pytest.mark.parametrize("count", [1, 4])

@@ -6,7 +6,7 @@ from pathlib import Path
 
 import pytest
 from formats import dictionary_of, maps_of, merge_of, put
-from programs import BUILDS, TOP, program, run, unread
+from programs import BUILDS, TOP, program, run
 
 NAME = "intaglio_dict"
 WAS = b"as it was"
@@ -45,9 +45,9 @@ def read(name):
     return Path(os.fsdecode(name)).read_bytes() if os.path.exists(name) else None
 
 
-def left(folder="."):
+def left():
     """The new files that weren't renamed."""
-    return [it for it in os.listdir(folder) if it.endswith(".new")]
+    return [*Path().rglob("*.new")]
 
 
 def seen():
@@ -76,10 +76,6 @@ class Tool:
         Path("out").write_bytes(WAS)
         assert self(*words, given=given) == said(status, message)
         return read("out") == WAS and not left()
-
-    def unread(self, *words, given=b""):
-        """The status and the messages if nobody reads the output."""
-        return unread([self.path, *words], given)
 
 
 # Two parts in shards, the dictionary to which they are merged, and the lines of a column of the first, of which one is missing.
