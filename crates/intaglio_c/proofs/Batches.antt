@@ -1,6 +1,6 @@
 -- What one turn of a loop over a batch does: one more string is interned, or copied to the buffer, and what
 -- was done before stays. So the loop's invariant holds of one string more.
-use Rattle.intaglio_c.proofs.Names.{◌≡◌, ◌+◌, ◌-◌, ◌<◌, ◌≤◌, ◌∷◌, ◌++◌, common_steps, drop-set-lt, ℕ, true, cond, inl, inr, List, [], length, map, take, drop, refl, sym, ap, subst, ◌∙◌, le_refl, arith, length-append, append_assoc, append-nil, Option, Some, None, Result, Ok, Err, is_some, unwrap_or, slice_get, concat, get_or, set, take_more, take_more_set, take_at, take-append-drop, drop_at, map_push, drop-drop, length-drop, slice_get_within, IfOk-at_ok, IfErr-at_err, issued, interned, interned_all, issue_from, State, first, AreFirstCopied, ends_from, AreInterned, IsBegun, IsRolledBack, InternsOr, fault, first_fault, key, Seen, position, unless, IsChangedBy, Interns, InternsBy, Refusal, drop_there, take_there}
+use Rattle.intaglio_c.proofs.Names.{◌≡◌, ◌+◌, ◌-◌, ◌<◌, ◌≤◌, ◌∷◌, ◌++◌, common_steps, drop-set-lt, ℕ, true, cond, inl, inr, List, [], length, map, take, drop, refl, sym, ap, subst, ◌∙◌, le_refl, arith, length-append, append_assoc, append-nil, Option, Some, None, Result, Ok, Err, is_some, unwrap_or, slice_get, concat, get_or, set, take_more, take_more_set, take_at, take-append-drop, drop_at, map_push, drop-drop, length-drop, slice_get_within, IfOk-at_ok, IfErr-at_err, issued, interned, interned_all, issue_from, State, AreFirstCopied, AreStored, ends_from, AreInterned, IsBegun, IsRolledBack, InternsOr, fault, first_fault, key, Seen, position, unless, IsChangedBy, Interns, InternsBy, Refusal, drop_there, take_there}
 use Rattle.std.proofs.lemmas.List.Folds.{concat-append}
 use borrow.Rule.Slice.PartMut.{put_mid}
 use Rattle.intaglio_interner.proofs.Laws.{interned_all-found, keeps-front}
@@ -113,61 +113,73 @@ ends_from-append n (x ∷ xs) ys =
     ap (λ (zs : List ℕ). (n + length x) ∷ zs) (ends_from-append (n + length x) xs ys
     ∙ ap (λ (k : ℕ). ends_from (n + length x) xs ++ ends_from k ys) place)
 
--- a copy on its way: of the strings of the first i symbols, which end at `start`
-pub record IsCopied (contents : List (List ℕ)) (symbols old places new ends : List ℕ)
-    (start i : ℕ) : Type 0 where
-  pub so_far : AreFirstCopied contents symbols old places new ends i
-  pub place : start ≡ length (concat so_far.strings)
+module _ (contents : List (List ℕ)) (old : List ℕ) where
+  -- a copy on its way: the strings of these symbols are at the front of the buffer
+  pub record IsCopied (symbols new : List ℕ) (start : ℕ) (ends : List ℕ) : Type 0 where
+    pub done : List (List ℕ)
+    pub stored : AreStored contents symbols done
+    pub place : start ≡ length (concat done)
+    pub within : start ≤ length old
+    pub buffer : new ≡ concat done ++ drop start old
+    pub written : ends ≡ ends_from 0 done
 
-module _ {contents : List (List ℕ)} {symbols old places new ends : List ℕ} {start i : ℕ}
-    (it : IsCopied contents symbols old places new ends start i) where
-  size : length new ≡ length old
-  size = let copied = it.so_far.copied in
-      omega (arith, simp (length-append, length-drop) at (ap length copied.buffer), copied.within)
+  size : (symbols new ends : List ℕ) (start : ℕ) → IsCopied symbols new start ends → length new ≡ length old
+  size symbols new ends start it =
+      omega (arith, simp (length-append, length-drop) at (ap length it.buffer), it.place, it.within)
+
+  -- a copy that ends before the symbol i
+  abbrev pub first_copied : (symbols new ends places : List ℕ) (start i : ℕ) →
+      IsCopied (take i symbols) new start (take i ends) → drop i ends ≡ drop i places
+      → AreFirstCopied contents symbols old places new ends i
+  first_copied symbols new ends places start i at rest = record {
+    strings = at.done;
+    stored = at.stored;
+    copied = record {
+      within = omega (arith, at.place, at.within);
+      buffer = at.buffer ∙ ap (λ (n : ℕ). concat at.done ++ drop n old) at.place;
+      ends = at.written;
+    };
+    rest = rest;
+  }
 
   -- a string that is longer than the rest of the buffer
-  pub too_short : (string : List ℕ) → length new - start < length string →
-      length old < length (concat it.so_far.strings) + length string
-  too_short string less = omega (arith, less, size, it.place, it.so_far.copied.within)
+  pub too_short : (symbols new ends : List ℕ) (start : ℕ) (string : List ℕ) →
+      (at : IsCopied symbols new start ends) → length new - start < length string
+      → length old < length (concat at.done) + length string
+  too_short symbols new ends start w at less = omega (arith, less, size _ _ _ start at, at.place, at.within)
 
-pub copied_more : (contents : List (List ℕ)) (symbols old places new ends written : List ℕ) (start i : ℕ)
-    (string : List ℕ) → i < length symbols → i < length ends
-    → IsCopied contents symbols old places new ends start i →
-    slice_get contents (get_or symbols i 0) ≡ Some string →
-    start + length string ≤ length new → written ≡ string
-    → IsCopied contents symbols old places (put_mid start (start + length string - start) new written)
-    (set ends i (start + length string)) (start + length string) (i + 1)
-copied_more contents symbols old places new ends written start i string inside inside' it there fits same =
-    let done = it.so_far.strings in let one = string ∷ [] in let end = start + length string in
-    let rest = drop end old in
-    let more : concat (done ++ one) ≡ concat done ++ string = concat-append done one
-    ∙ ap (λ (x : List ℕ). concat done ++ x) (append-nil string) in
-    let before : new ≡ concat done ++ drop start old = it.so_far.copied.buffer
-    ∙ ap (λ (n : ℕ). concat done ++ drop n old) (sym it.place) in
-    let front : take start new ≡ concat done = ap (take start) before
-    ∙ take_at (concat done) (drop start old) start (omega (arith, it.place)) in
-    let left : drop start new ≡ drop start old = ap (drop start) before
-    ∙ drop_at (concat done) (drop start old) start (omega (arith, it.place)) in
-    let sum : start + (end - start) ≡ end = omega arith in
-    let back : drop (end - start) (drop start new) ≡ rest =
-    ap (drop (end - start)) left ∙ drop-drop (end - start) start old ∙ ap (λ (n : ℕ). drop n old) sum in
-    let ending : end ≡ 0 + length (concat done) + length string = omega (arith, it.place) in
-    let size_now : end ≡ length (concat (done ++ one)) =
-    omega (arith, it.place, ap length more, length-append (concat done) string) in record {
-      so_far = record {
-        strings = done ++ one;
+  pub copied_more : (symbols new ends written : List ℕ) (start i : ℕ) (string : List ℕ) → i < length symbols →
+      i < length ends → IsCopied (take i symbols) new start (take i ends) →
+      slice_get contents (get_or symbols i 0) ≡ Some string
+      → start + length string ≤ length new → written ≡ string
+      → IsCopied (take (i + 1) symbols) (put_mid start (start + length string - start) new written)
+      (start + length string) (take (i + 1) (set ends i (start + length string)))
+  copied_more symbols new ends written start i string inside inside' at there fits same =
+      let end = start + length string in let rest = drop end old in let more : concat (at.done ++ string ∷ []) ≡ concat at.done ++ string =
+      concat-append at.done (string ∷ []) ∙ ap (λ (x : List ℕ). concat at.done ++ x) (append-nil string) in
+      let front : take start new ≡ concat at.done = ap (take start) at.buffer
+      ∙ take_at (concat at.done) (drop start old) start (omega (arith, at.place)) in
+      let left : drop start new ≡ drop start old = ap (drop start) at.buffer
+      ∙ drop_at (concat at.done) (drop start old) start (omega (arith, at.place)) in
+      let sum : start + (end - start) ≡ end = omega arith in
+      let back : drop (end - start) (drop start new) ≡ rest =
+      ap (drop (end - start)) left ∙ drop-drop (end - start) start old ∙ ap (λ (n : ℕ). drop n old) sum in
+      let ending : end ≡ 0 + length (concat at.done) + length string = omega (arith, at.place) in record {
+        done = at.done ++ string ∷ [];
         stored = ap (map (slice_get contents)) (take_more symbols i 0 inside)
             ∙ map_push (slice_get contents) (take i symbols) (get_or symbols i 0)
-            ∙ (λ j. it.so_far.stored j ++ there j ∷ []) ∙ sym (map_push Some done string);
-        copied = record {
-          within = omega (arith, fits, size it, size_now);
-          buffer = (λ j. front j ++ (same j ++ back j)) ∙ sym (append_assoc (concat done) string rest)
-              ∙ (λ j. sym more j ++ drop (size_now j) old);
-          ends = take_more_set ends i end inside' ∙ (λ j. it.so_far.copied.ends j ++ end ∷ [])
-              ∙ ap (λ (n : ℕ). ends_from 0 done ++ n ∷ []) ending ∙ sym (ends_from-append 0 done one);
-        };
-        rest = drop-set-lt (i + 1) ends i end (omega arith) ∙ sym (drop-drop 1 i ends)
-            ∙ ap (drop 1) it.so_far.rest ∙ drop-drop 1 i places;
-      };
-      place = size_now;
-    }
+            ∙ (λ j. at.stored j ++ there j ∷ []) ∙ sym (map_push Some at.done string);
+        place = omega (arith, at.place, ap length more, length-append (concat at.done) string);
+        within = omega (arith, fits, size symbols new ends start at);
+        buffer = (λ j. front j ++ (same j ++ back j)) ∙ sym (append_assoc (concat at.done) string rest)
+            ∙ ap (λ (x : List ℕ). x ++ rest) (sym more);
+        written = take_more_set ends i end inside' ∙ (λ j. at.written j ++ end ∷ [])
+            ∙ ap (λ (n : ℕ). ends_from 0 at.done ++ n ∷ []) ending
+            ∙ sym (ends_from-append 0 at.done (string ∷ []));
+      }
+
+-- what isn't written yet stays behind one end more
+pub rest_next : (ends places : List ℕ) (i end : ℕ) → drop i ends ≡ drop i places →
+    drop (i + 1) (set ends i end) ≡ drop (i + 1) places
+rest_next ends places i end rest = drop-set-lt (i + 1) ends i end (omega arith) ∙ sym (drop-drop 1 i ends)
+    ∙ ap (drop 1) rest ∙ drop-drop 1 i places

@@ -11,4 +11,4 @@ pub use Rattle.intaglio_interner.specs.Change.{AddsNew, InternsValue, IsOutOfMem
 pub use Rattle.intaglio_interner.specs.Issue.{issued, interned, interned_all, issue_from}
 pub use Rattle.intaglio_interner.specs.State.{State, first, Table, first_of}
 pub use Rattle.intaglio_frozen.proofs.HashedAhead.{Continues, all_first, first as first_ahead, more, drop_there, take_there}
-pub use Rattle.intaglio_c.specs.Cited.{bytes_content_bytes, KeyedState, components, path_content_bytes, StaleMark, AreFirst, Either, are_ends, is_batch, pieces, AreFirstCopied, ends_from, AreInterned, IsBegun, IsRolledBack, InternsOr, IsHash, HasKey, broken, copies_static, fault, first_fault, key, earlier, utf8_fault, IsFaultless, fault_in, seen, Seen, look_up, position, unless, IsChangedBy, packed_bytes, as_bytes, seen_of, Interns, InternsBy, InternsNew, AnyTable, TableKind, Refusal, BadEnds, Full, NoMemory, NotUtf8, Key, InternError, Overflow, Memory, Owned, Path, Packed, symbol_answer, found, Absorbs}
+pub use Rattle.intaglio_c.specs.Cited.{bytes_content_bytes, KeyedState, components, path_content_bytes, StaleMark, AreFirst, Either, are_ends, is_batch, pieces, AreFirstCopied, AreStored, ends_from, own_id, set_in, AreInterned, IsBegun, IsRolledBack, InternsOr, IsHash, HasKey, broken, copies_static, fault, first_fault, key, earlier, utf8_fault, IsFaultless, fault_in, seen, Seen, look_up, position, unless, IsChangedBy, packed_bytes, as_bytes, seen_of, Interns, InternsBy, InternsNew, AnyTable, TableKind, Refusal, BadEnds, Full, NoMemory, NotUtf8, Key, InternError, Overflow, Memory, Owned, Path, Packed, symbol_answer, found, Absorbs}

@@ -15,7 +15,7 @@ macro_rules! table_of {
     }};
 }
 
-// The value of a result. The code of an error is returned at once.
+// The value of a result. After an error the call returns at once: its code, or what is given.
 macro_rules! or_code {
     ($result:expr) => {
         match $result {
@@ -23,10 +23,6 @@ macro_rules! or_code {
             Err(error) => return code(failed(Refusal::from(error))),
         }
     };
-}
-
-// The value of a result. After an error the call returns at once what is given.
-macro_rules! value_or {
     ($result:expr, $without:expr) => {
         match $result {
             Ok(value) => value,

@@ -20,7 +20,10 @@ impl AnyTable {
         let mut used = GROUP;
         for i in 0..symbols.len() {
             used = look_ahead(&*self, list, i, &mut hashes, used);
-            symbols[i] = self.intern(hashes[used], list.string(i))?.id();
+            match self.intern(hashes[used], list.string(i)) {
+                Ok(symbol) => symbols[i] = symbol.id(),
+                Err(refusal) => return Err(refusal),
+            }
             used += 1;
         }
         Ok(())

@@ -25,7 +25,7 @@ pub extern "C" fn intaglio_column_len(bytes: &[u8]) -> usize
     ensures rows { HasRows bytes.now → result ≡ length (codes bytes.now) }
     ensures none { ¬ HasRows bytes.now → result ≡ 0 }
 {
-    value_or!(Column::open_trusted(bytes), 0).len()
+    or_code!(Column::open_trusted(bytes), 0).len()
 }
 
 /// How many bytes a code of a column has, or 0 as [`intaglio_column_len`].
@@ -34,7 +34,7 @@ pub extern "C" fn intaglio_column_width(bytes: &[u8]) -> usize
     ensures width { HasRows bytes.now → result ≡ bytes_of (width_of bytes.now) }
     ensures none { ¬ HasRows bytes.now → result ≡ 0 }
 {
-    value_or!(Column::open_trusted(bytes), 0).width().bytes()
+    or_code!(Column::open_trusted(bytes), 0).width().bytes()
 }
 
 /// Writes which dictionary a column belongs to, with the number of its strings, or of those of one shard if the
@@ -74,7 +74,7 @@ pub extern "C" fn intaglio_column_code(bytes: &[u8], row: usize, found: &mut u32
     ensures none { ¬ HasRows bytes.now → result ≡ false }
     ensures unwritten { result ≡ false → found.new ≡ found.old }
 {
-    write_found!(value_or!(Column::open_trusted(bytes), false).code(row), code => found = code)
+    write_found!(or_code!(Column::open_trusted(bytes), false).code(row), code => found = code)
 }
 
 /// Writes the codes of the rows of a column from one on, as many as there are places and
@@ -86,7 +86,7 @@ pub extern "C" fn intaglio_column_codes(bytes: &[u8], from: usize, places: &mut 
     ensures none { ¬ HasRows bytes.now → result ≡ 0 }
     ensures unwritten { ¬ HasRows bytes.now → places.new ≡ places.old }
 {
-    value_or!(Column::open_trusted(bytes), 0).codes_into(from, places)
+    or_code!(Column::open_trusted(bytes), 0).codes_into(from, places)
 }
 
 /// Writes the rows of a column that have this code, in ascending order, as far as there are places.
@@ -98,7 +98,7 @@ pub extern "C" fn intaglio_column_rows(bytes: &[u8], code: u32, places: &mut [u6
     ensures none { ¬ HasRows bytes.now → result ≡ 0 }
     ensures unwritten { ¬ HasRows bytes.now → places.new ≡ places.old }
 {
-    value_or!(Column::open_trusted(bytes), 0).rows_into(code, places)
+    or_code!(Column::open_trusted(bytes), 0).rows_into(code, places)
 }
 
 /// Writes how often each string of the dictionary occurs in a column, and how many rows are missing. Fails

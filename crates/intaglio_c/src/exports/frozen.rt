@@ -152,7 +152,7 @@ pub extern "C" fn intaglio_frozen_is_text(bytes: &[u8]) -> bool
     ensures kind { HasHeader bytes.now → IsTrue result ↔ (kind bytes.now ≡ text_kind) }
     ensures none { ¬ HasHeader bytes.now → result ≡ false }
 {
-    value_or!(Header::read(bytes), false).kind == FrozenKind::Text
+    or_code!(Header::read(bytes), false).kind == FrozenKind::Text
 }
 
 /// Writes what the header of a frozen table says, and where its sections are, for the two calls below.

@@ -1,6 +1,5 @@
 -- The list has the identity of each reference so far, in order.
-use Rattle.std.proofs.Common.{◌≡◌, map, take}
-use Rattle.intaglio_c.specs.Cited.{own_id}
+use Rattle.intaglio_c.proofs.Names.{◌≡◌, map, take, own_id}
 use Rattle.intaglio_c.proofs.reference.ids_of.Given as goal
 
 abbrev pub invariant-loop-one : goal.invariant-loop-one

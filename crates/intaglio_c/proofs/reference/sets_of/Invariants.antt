@@ -1,6 +1,5 @@
 -- The list has the set of each reference so far, in order.
-use Rattle.std.proofs.Common.{◌≡◌, map, take}
-use Rattle.intaglio_c.specs.Cited.{set_in}
+use Rattle.intaglio_c.proofs.Names.{◌≡◌, map, take, set_in}
 use Rattle.intaglio_c.proofs.reference.sets_of.Given as goal
 
 abbrev pub invariant-loop-one : goal.invariant-loop-one

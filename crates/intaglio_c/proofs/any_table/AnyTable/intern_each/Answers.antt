@@ -10,10 +10,10 @@ intern-requires g c = record {
       c.string.ensures c.look_ahead-used.ensures.some c.look_ahead-used.ensures.left).0;
 }
 
-pub returns-in_err-intern : goal.returns-in_err-intern
-returns-in_err-intern g c = record {
+pub returns-in-Err : goal.returns-in-Err
+returns-in-Err g c = record {
   step = stopped _ _ (seen c.loop-i.self) (seen c.intern.new.self) _ c.loop-i.symbols c.loop-i.i _ _ _ c.string.ensures c.loop-i.invariant.begins
-      c.in_err-intern.was c.intern.ensures.step;
+      c.in-Err.is c.intern.ensures.step;
 }
 
 pub loop-i-preserved : goal.loop-i-preserved
@@ -24,7 +24,7 @@ loop-i-preserved g c = record {
       (first_ahead (IsHash (seen c.loop-i.self).kind (seen c.loop-i.self).hasher) (g.L.StringList.strings c.args.list.now) _ c.loop-i.i _ _
       c.string.ensures c.look_ahead-used.ensures.some c.look_ahead-used.ensures.left).1;
   begins = turned _ _ (seen c.loop-i.self) (seen c.intern.new.self) c.loop-i.symbols c.loop-i.i _ _ _ c.string.ensures c.loop-i.invariant.places
-      c.loop-i.invariant.begins (c.in_ok-intern.was ∙ ap Ok (sym c.id.ensures)) c.intern.ensures.step;
+      c.loop-i.invariant.begins (c.in-Ok.is ∙ ap Ok (sym c.id.ensures)) c.intern.ensures.step;
 }
 
 pub returns : goal.returns
