@@ -170,7 +170,7 @@ module _ (contents : List (List ℕ)) (old : List ℕ) where
             ∙ map_push (slice_get contents) (take i symbols) (get_or symbols i 0)
             ∙ (λ j. at.stored j ++ there j ∷ []) ∙ sym (map_push Some at.done string);
         place = omega (arith, at.place, ap length more, length-append (concat at.done) string);
-        within = omega (arith, fits, size symbols new ends start at);
+        within = omega (arith, fits, size _ _ _ start at);
         buffer = (λ j. front j ++ (same j ++ back j)) ∙ sym (append_assoc (concat at.done) string rest)
             ∙ ap (λ (x : List ℕ). x ++ rest) (sym more);
         written = take_more_set ends i end inside' ∙ (λ j. at.written j ++ end ∷ [])
