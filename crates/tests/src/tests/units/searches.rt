@@ -4,7 +4,7 @@ use super::expected_writes::ExpectedWrites;
 use crate::support::builders::{Counted, HasherCount};
 use crate::support::kinds::Host;
 use crate::tests::assertions::same;
-use intaglio::{Core, Symbol, Work};
+use intaglio::{BaseInterner, Interner, Symbol, Table, Work};
 use std::fmt::Write;
 
 // Texts, many of which share a bucket, and what their searches do.
@@ -26,40 +26,38 @@ struct Row<'a> {
 
 fn enters<C: CountsComparisons>(
     rt: &impl Host,
-    table: &mut Core<C, impl HasherCount>,
+    table: &mut Table<C, impl HasherCount>,
     text: &str,
     wanted: u32,
     most: usize,
 ) {
     let content = C::of_text(rt.alloc(), text).expect(rt, "memory");
-    let symbol = table
-        .intern(content, &mut Work::new())
-        .expect(rt, "a symbol");
-    let stored = table.get(symbol).expect(rt, "a content");
+    let symbol = table.intern(content).expect(rt, "a symbol");
+    let stored = table.content(symbol).expect(rt, "a content");
     same(rt, (symbol.id(), stored.compared() <= most), (wanted, true));
 }
 
 fn seeks<C: CountsComparisons>(
     rt: &impl Host,
-    table: &Core<C, impl HasherCount>,
+    table: &Table<C, impl HasherCount>,
     text: &str,
     wanted: Option<Symbol>,
     most: usize,
 ) {
     let sought = C::of_text(rt.alloc(), text).expect(rt, "memory");
-    let symbol = table.search(&sought, &mut Work::new());
+    let symbol = table.search_counted(&sought, &mut Work::new());
     same(rt, (symbol, sought.compared() <= most), (wanted, true));
 }
 
 // Interns the texts, which get the numbers from 0 on.
-fn interns<C: CountsComparisons>(rt: &impl Host, table: &mut Core<C, impl HasherCount>, row: &Row) {
+fn interns<C: CountsComparisons>(rt: &impl Host, table: &mut Table<C, impl HasherCount>, row: &Row) {
     for (text, number) in row.texts.split(' ').zip(0..row.count) {
         enters(rt, table, text, number, row.most);
     }
 }
 
 // Finds the texts, from the last to the first.
-fn finds<C: CountsComparisons>(rt: &impl Host, table: &Core<C, impl HasherCount>, row: &Row) {
+fn finds<C: CountsComparisons>(rt: &impl Host, table: &Table<C, impl HasherCount>, row: &Row) {
     for (text, number) in row.texts.rsplit(' ').zip((0..row.count).rev()) {
         let symbol = Symbol::new(number);
         seeks(rt, table, text, Some(symbol), row.count as usize);
@@ -68,7 +66,7 @@ fn finds<C: CountsComparisons>(rt: &impl Host, table: &Core<C, impl HasherCount>
 
 fn misses<C: CountsComparisons>(
     rt: &impl Host,
-    table: &Core<C, impl HasherCount>,
+    table: &Table<C, impl HasherCount>,
     texts: &str,
     most: usize,
 ) {
@@ -78,7 +76,7 @@ fn misses<C: CountsComparisons>(
 }
 
 fn tells_apart<C: CountsComparisons, S: HasherCount>(rt: &impl Host, builder: S, row: &Row) {
-    let made = Core::<C, S>::with_capacity_and_hasher(rt.alloc(), row.capacity, builder);
+    let made = Table::<C, S>::with_capacity_and_hasher(rt.alloc(), row.capacity, builder);
     let mut table = made.expect(rt, "a table");
     interns(rt, &mut table, row);
     misses(rt, &table, row.equal, row.count as usize);
