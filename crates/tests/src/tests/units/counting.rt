@@ -1,16 +1,16 @@
 //! Contents that count how often they are compared as the sought value: a trait for them, and a text that
 //! does so.
-ghost use Rattle.std.specs.Prelude.{[], ◌∷◌};
+ghost use Rattle.std.specs.Prelude.{[], ◌∷◌, refl};
 ghost use Rattle.intaglio_text.specs.StrContent.{str_content_bytes};
 
-use intaglio::{Keyed, Sought, StrContent, Work};
+use intaglio::{Content, Keyed, Sought, StrContent, Work};
 use std::alloc::{AllocError, Global};
 use std::cell::Cell;
 use std::hash::BuildHasher;
 
 /// A content that counts the comparisons made with it as the sought value. The prover takes seconds wherever
 /// a table of one content is passed to a function over any store, so tests are over any such content.
-pub trait CountsComparisons: Sought<Self> + Drop {
+pub trait CountsComparisons: Content + Sought<Self> + Drop {
     /// A content that is a copy of this text.
     fn of_text(alloc: Global, text: &str) -> Result<Self, AllocError>;
 
@@ -45,6 +45,14 @@ impl Keyed for Counting {
     fn touch(&self) -> u8 {
         self.text.touch()
     }
+}
+
+impl Content for Counting {
+    ghost spelling = { λ counting. str_content_bytes counting.text };
+
+    ghost key_of = { λ bytes. bytes ∷ [] };
+
+    ghost key_of_spelling = { λ _. refl };
 }
 
 impl Sought<Counting> for Counting {

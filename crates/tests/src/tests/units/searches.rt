@@ -50,7 +50,11 @@ fn seeks<C: CountsComparisons>(
 }
 
 // Interns the texts, which get the numbers from 0 on.
-fn interns<C: CountsComparisons>(rt: &impl Host, table: &mut Table<C, impl HasherCount>, row: &Row) {
+fn interns<C: CountsComparisons>(
+    rt: &impl Host,
+    table: &mut Table<C, impl HasherCount>,
+    row: &Row,
+) {
     for (text, number) in row.texts.split(' ').zip(0..row.count) {
         enters(rt, table, text, number, row.most);
     }
