@@ -201,6 +201,16 @@ def is_of_type(edit):
     return any(old in text and not re.search(r"\bfn ", text[: text.index(old) + len(old)]) for old, _ in edit.pairs)
 
 
+@functools.lru_cache(maxsize=None)
+def turned_by(edit):
+    """The functions of the name in an edit's `fn:` in which its texts stand, or that may refuse it, where it turns a type."""
+    if is_of_type(edit):
+        return named_by(edit.crate, edit.function)
+    here = functions_in(edit.crate, TOP / "crates" / edit.crate / edit.file)[0]
+    named = (it for it in here if it.name == edit.function.split("::")[-1])
+    return [it for it in named if all(old.strip() in it.text for old, _ in edit.pairs)]
+
+
 class Sources:
     def __init__(self):
         self.functions, self.edits, self.definitions, self.types = [], [], dict[str, str](), set[str]()
