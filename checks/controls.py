@@ -1,10 +1,10 @@
 """Which controls needn't be tried again: those that rest on what they rested on when they were last accepted.
 
-A control rests on the kit and on its edit; on its function with its contract and its proof, and on the files of lemmas that the
-proof reaches; on the headers, with their clauses, of the functions that it calls; and on whatever any of these cites, or that
-cites in turn: types with their impls and ghost members, traits, constants, and definitions of specs. Comments, layout and bodies
-of other functions don't count. All that has a cited name counts, in the crate and in those below it, whether it is meant or not:
-so nothing is missed, and some controls are tried that needn't be. controls.txt has the checksums of all that.
+A control rests on the kit and on its edit; on its function with its contract and its proof; on the headers, with their clauses,
+of the functions that it calls; and on whatever any of these cites, or that cites in turn: files of lemmas, types with their impls
+and ghost members, traits, constants, and definitions of specs. Comments, layout, tactics and bodies of other functions don't
+count. All whose name is a word there counts, in the crate and in those below it, whether it is meant or not: so nothing is
+missed, and some controls are tried that needn't be. controls.txt has the checksums of all that.
 """
 
 import collections
@@ -20,146 +20,112 @@ from sources import TOP
 
 TABLE = TOP / "checks/controls.txt"
 HEAD = "# The checksums of the controls of each crate that were accepted, by all that they rest on: `checks/mutants` writes them."
-# A comment, or else a word, a sign or a text in quotes.
-TOKEN = re.compile(r'//.*|(?<!\S)--.*|"(?:\\.|[^"\\])*"|\'(?:\\.|[^\'\\])\'|\w+(?:-[^\W\d]\w*)*|\S')
+# A comment or a comma before a closing bracket, which are layout; or else a text in quotes, a file of lemmas, a word or a sign.
+TOKEN = re.compile(
+    r'''//.*|(?<!\S)--.*|,(?=\s*[)\]}])|("(?:\\.|[^"\\])*"|'(?:\\.|[^'\\])'|proofs\.\w+|\w+(?:-[^\W\d]\w*)*|\S)'''
+)
 # What a file takes from others: a path, and names in it. What a path has before the types is none.
 USE = re.compile(r"(?m)^ *(?:pub |ghost )*use ([^{;\n]*)(?:\{([^}]*)\})?")
-BEFORE_TYPES = re.compile(r"Rattle\.(.*\.declared|.*\.specs\.\w+|.*\.proofs\.\w+)\.")
-# A file of lemmas: of `use`, or of a tactic, which names one of its own crate.
-LEMMAS = re.compile(r"\bRattle\.(\w+)\.proofs\.([\w.+]+)|\bcrate()::proofs::(\w+)")
+BEFORE_TYPES = re.compile(r"Rattle\.(?:.*\.declared|.*\.specs\.\w+|.*\.proofs\.\w+)\.|\b[a-z_]\w*\.")
 TACTIC = re.compile(r"#!?\[tactic.*\]")
 # Where an item of a source begins, and the attributes in front of one.
 ITEM = re.compile(r"(?m)^(?=#|(?:pub|impl|struct|enum|trait|type|const|static|unsafe|macro_rules!|ghost|use|mod)\b)")
 ATTRIBUTES = re.compile(r"(?m)^(?:#\[(?:[^][]|\[[^]]*\])*\]\s*)+")
 NAMED = re.compile(r"(?:pub(?:\(\w+\))? )?(?:(?:struct|enum|trait|type|const|static) |macro_rules! )(\w+)")
 CONSTANT = re.compile(r" *(?:pub(?:\(\w+\))? )?const fn")
-# What a part of a file says: a checksum of it, its words, and those that may name what isn't its own.
-Statement = collections.namedtuple("Statement", "sum words names")
+# What a part of a file says: a checksum of it, and its words with the names of what it takes from others.
+Statement = collections.namedtuple("Statement", "sum words")
 
 
-def sum_of(said, length=64):
-    return hashlib.sha256(repr(said).encode()).hexdigest()[:length]
+def sum_of(said):
+    return hashlib.sha256(repr(said).encode()).hexdigest()[:16]
 
 
 @functools.lru_cache(maxsize=None)
 def uses(whole):
-    """What a file takes from others: of each what it's called here, its path, and the names in that."""
+    """What a file takes from others: of each what it's called here, and its path."""
     names = [(path, *it.strip().partition(" as ")) for path, names in USE.findall(whole) for it in (names or path).split(",")]
-    parts = [re.split(r"::|\.", BEFORE_TYPES.sub("", path) + "." + it) for path, it, _, _ in names]
-    return [(here or of[-1], path + it, of) for (path, it, _, here), of in zip(names, parts)]
+    return [(here or re.split(r"::|\.", it)[-1], f"{path}.{it}".replace("::", ".")) for path, it, _, here in names]
 
 
-def stated(text, whole, own):
-    """What a text of a file says, with the paths of what it takes from others. Commas before a closing bracket are layout."""
-    found = [it for it in TOKEN.findall(text) if not it.startswith(("//", "--"))]
-    said = [it for it, after in zip(found, [*found[1:], ""]) if it != "," or after not in ")]}"]
+def stated(text, whole):
+    """What a text of a file says, with the paths of what it takes from others."""
+    said = [*filter(None, TOKEN.findall(text.replace("::", ".")))]
     words = frozenset(said)
-    taken = [it for it in uses(whole) if it[0] in words]
-    names = frozenset(it for before, it in zip(["", *said], said) if it in own or before == ":")
-    paths = sorted(it[1] for it in taken)
-    return Statement(sum_of([said, paths]), words, names.union(*(it[2] for it in taken), (it[0] for it in taken)))
+    paths = sorted(path for name, path in uses(whole) if name in words)
+    return Statement(sum_of([said, paths]), words.union(*(TOKEN.findall(BEFORE_TYPES.sub("", it)) for it in paths)))
 
 
 @functools.lru_cache(maxsize=None)
 def source(crate, path):
-    """The functions of a source, each with its header; its types, traits and constants with their names, and its impls, each with
-    type, trait and the words from the trait to its bounds; and the names of all these."""
+    """What a source states: the headers of its functions, each with its name and the type or trait that has it; types, traits
+    and constants by their names; and impls by that of the type, with the words from the trait to the bounds. An impl of a
+    trait has the headers of its functions."""
     whole = rest = sources.text_of(path)
-    functions, found = sources.functions_in(crate, path)[0], []
-    for it in functions:
-        rest = rest.replace(it.text, "", 1)
-    rest = ATTRIBUTES.sub(lambda it: " ".join(it[0].split()) + " ", re.sub(r"(?m)^ *//.*\n", "", rest))
+    functions, items = [], []
+    for it in sources.functions_in(crate, path)[0]:
+        lines, is_of_impl = it.text.split("\n"), it.trait not in ("", it.owner)
+        head = it.text if CONSTANT.match(it.text) else "\n".join(lines[: len(sources.header_of(lines))])
+        rest = rest.replace(it.text, head * is_of_impl, 1)
+        functions += [(it.name, it.owner, stated(head, whole))] * (not is_of_impl)
+    rest = ATTRIBUTES.sub(lambda it: " ".join(it[0].split()) + " ", TACTIC.sub("", re.sub(r"(?m)^ *//.*\n", "", rest)))
     for item in ITEM.split(rest):
         line = ATTRIBUTES.sub("", item)
         if sources.OWNER.match(line):
             header = re.split(r"[{;]|\bwhere\b", line)[0]
             owner, trait = sources.owner_of(header)
-            found.append((owner, trait, frozenset(re.findall(r"\w+", header[header.rfind(trait) :])), item))
+            of_impl = re.findall(r"\w+", header[header.rfind(trait) :]) if owner != trait else []
+            items.append((owner, of_impl, stated(item, whole)))
         else:
-            found += [(name, name, frozenset(), item) for name in NAMED.findall(line)[:1]]
-    own, heads = {owner for owner, *_ in found}, []
-    for it in functions:
-        lines = it.text.split("\n")
-        end = len(lines) if CONSTANT.match(it.text) else len(sources.header_of(lines))
-        heads.append((it, stated("\n".join(lines[:end]), whole, own)))
-    return heads, [(*it, stated(item, whole, own)) for *it, item in found], own
+            items += [(name, [], stated(item, whole)) for name in NAMED.findall(line)[:1]]
+    return functions, items
 
 
 @functools.lru_cache(maxsize=None)
-def specs(path):
-    """The definitions of a file of specs by their names, each with what the file's modules are given."""
+def definitions(path):
+    """The definitions of a file of specs by their names, each with what the file's modules are given; or a file of lemmas as a
+    whole, by its own name. (A file Names only passes names on.)"""
     whole = sources.text_of(path)
+    if path.parent.name == "proofs":
+        return [(f"proofs.{path.stem}", stated(whole, whole))] * (path.stem != "Names")
     given, own = " ".join(re.findall(r"(?ms)^ *module .*? where$", whole)), sources.definitions_in(path)
-    return [(it, stated(own[it] + given, whole, own)) for it in own if "." not in it and it not in ("use", "mod")]
-
-
-def lemmas(crate, texts):
-    """The texts of the files of lemmas that texts of a crate reach (a file Names only passes names on)."""
-    left, found = [*texts], {}
-    for text in left:
-        for other, places, _, own in LEMMAS.findall(text):
-            path = TOP / "crates" / (other or crate) / "proofs"
-            for part in (places or own).split("."):
-                file, path = path / f"{part}.antt", path / part
-                if part != "Names" and file not in found and file.is_file():
-                    found[file] = sources.text_of(file)
-                    left.append(found[file])
-    return found.values()
+    return [(it, stated(own[it] + given, whole)) for it in own if "." not in it and it not in ("use", "mod")]
 
 
 class Index:
-    """What a crate and those below it state: functions and items by their names, impls with the names on which they depend."""
+    """What a crate and those below it state: the headers of functions with their names, and all else without one, each with the
+    words that must be cited for it to count."""
 
     def __init__(self, crate):
-        self.kit, self.heads, self.items = toolchain.version(), collections.defaultdict(set), collections.defaultdict(set)
-        folders = [TOP / "crates" / it.name for it in (*crate.below(), crate)]
-        files = [source(it.name, path) for it in folders for path in sorted(it.glob("src/**/*.rt"))]
-        every = [it for _, found, _ in files for it in found]
-        self.declared, self.impls = {owner for owner, trait, *_ in every if owner == trait}, set()
-        for owner, trait, header, said in every:
-            if owner == trait:
-                self.items[owner].add(said)
-            else:
-                # (an impl for a type of std, or for all that have another trait, goes by what its trait is of)
-                self.impls.add((frozenset({owner} if owner in self.declared else header & self.declared), said))
-        for it, said in (one for heads, _, _ in files for one in heads):
-            self.heads[it.name].add((it.owner, it.trait, said))
-            # (a sign, a loop or a `?` calls functions of std's traits, and names none)
-            if it.trait and it.trait not in self.declared:
-                self.impls.add((frozenset({it.owner} & self.declared), said))
-        for name, said in (it for folder in folders for path in sorted(folder.glob("specs/**/*.antt")) for it in specs(path)):
-            self.items[name].add(said)
-
-    def reached(self, said):
-        """The names of items that these statements cite, and of those that they cite, and all that is stated there."""
-        found, left, said = set[str](), {*said}, {*said}
-        while left:
-            new = {it for one in left for it in one.names if it in self.items} - found
-            found |= new
-            left = {it for name in new for it in self.items[name]} | {it for needs, it in self.impls if needs <= found}
-            left -= said
-            said |= left
-        return found, said
+        self.kit, folders = toolchain.version(), [TOP / "crates" / it.name for it in (*crate.below(), crate)]
+        files = [source(it.name, path) for it in folders for path in it.glob("src/**/*.rt")]
+        self.every = [(name, {owner} - {""}, said) for functions, _ in files for name, owner, said in functions]
+        items = [it for _, items in files for it in items]
+        declared = {name for name, of_impl, _ in items if not of_impl}
+        for name, of_impl, said in items:
+            # (an impl for a type of std, or for all that have another trait, goes by what its trait is of)
+            self.every.append(("", {name} if name in declared else declared.intersection(of_impl) or {name}, said))
+        paths = (it for folder in folders for part in ("specs/**", "proofs") for it in folder.glob(f"{part}/*.antt"))
+        self.every += [("", {name}, said) for path in paths for name, said in definitions(path)]
 
     def sum_of(self, edit):
         """The checksum of all that an edit rests on."""
         folder = TOP / "crates" / edit.crate
-        whole, own = sources.text_of(folder / edit.file), source(edit.crate, folder / edit.file)[2]
-        found = [it for it in sources.named_by(edit.crate, edit.function) if it.file == f"crates/{edit.crate}/{edit.file}"]
-        turned = [it.text for it in found] if found and not sources.is_of_type(edit) else [whole]
-        edited = [edit.function, *sum(edit.pairs, ()), *(f":{it.owner} :{it.trait}" for it in found), *TACTIC.findall(whole)]
-        texts = [" ".join(edited), *turned]
-        proof = [sources.text_of(it) for it in sorted(folder.joinpath("proofs", *edit.function.split("::")).glob("*.antt"))]
-        said = {stated(it, whole, own) for it in texts}
-        words = {word for it in said for word in it.words}
-        cited = {said for word in words & self.items.keys() for said in self.items[word]}
-        words.update(*(it.words for it in cited if "macro_rules" in it.words))
-        reached, said = self.reached(said | {stated(it, it, ()) for it in (*proof, *lemmas(edit.crate, [*texts, *proof]))})
-        # (functions of these names, but for those of types and traits that nothing cites)
-        heads = [it for word in words & self.heads.keys() for it in self.heads[word]]
-        while called := {it for owner, trait, it in heads if owner not in self.declared or {owner, trait} & reached} - said:
-            reached, said = self.reached(said | called)
-        return sum_of([self.kit, *sorted(it.sum for it in said)], 16)
+        whole = sources.text_of(folder / edit.file)
+        found = sources.turned_by(edit)
+        turned = [whole] if sources.is_of_type(edit) else [it.text for it in found]
+        edited = [edit.function, *sum(edit.pairs, ()), *(f"{it.owner} {it.trait}" for it in found), *TACTIC.findall(whole)]
+        proof = [sources.text_of(it) for it in folder.joinpath("proofs", *edit.function.split("::")).glob("*.antt")]
+        own = {stated(it, whole) for it in (" ".join(edited), *turned)}
+        called, cited, said = {word for it in own for word in it.words}, set(), set()
+        left = own | {stated(it, it) for it in proof}
+        while left:
+            said |= left
+            cited.update(*(it.words for it in left))
+            # (a function calls what a macro of it calls)
+            called.update(*(it.words for it in left if "macro_rules" in it.words))
+            left = {it for name, needs, it in self.every if needs <= cited and (not name or name in called)} - said
+        return sum_of([self.kit, *sorted(it.sum for it in said)])
 
 
 class Accepted:
