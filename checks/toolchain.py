@@ -199,15 +199,13 @@ class Verdicts:
     files and those below it, the edit and the scripts. Beside an `rt ci` only what was said over the libraries of one counts."""
 
     def __init__(self, scripts, is_anew, is_beside_ci):
-        self.stamps: dict[str, str] = {}
         # (the files are looked at here, and again as something is kept)
-        self.kept = load().Kept(crates(), is_anew)
-        for crate in crates():
-            load().stamp_of(crate, self.stamps)
+        self.kept, self.stamps = load().Kept(crates(), is_anew), dict[str, str]()
         self.scripts, self.is_beside_ci = [load().rtlib.sum_of(it) for it in scripts], is_beside_ci
 
     def name(self, crate, edit, is_of_ci):
-        return hashlib.sha256(repr((self.stamps.get(crate.name), self.scripts, edit, is_of_ci)).encode()).hexdigest()
+        stamp = load().stamp_of(crate, self.stamps)
+        return hashlib.sha256(repr((stamp, self.scripts, edit, is_of_ci)).encode()).hexdigest()
 
     def known(self, crate, edit):
         return (self.kept.tried(self.name(crate, edit, self.is_beside_ci)) or (None, None))[1]
@@ -222,15 +220,14 @@ class Verdicts:
 def crate_above(room, name):
     """A crate in a scratch folder that lists every library of this repository, and of the kit, that crates.txt names."""
     every = crates()
-    below = [it for it in every if it.makes_rlib()]
-    build_missing(below)
-    rows = {it.name: [*(dep.name for dep in it.deps), *(dep for dep in it.of_kit if dep != "std")] for it in below}
-    rows[name] = [*rows, *sorted({dep for it in every for dep in it.of_kit if dep != "std"})]
-    for row in rows:
-        os.makedirs(f"{room}/crates/{row}/src")
-    os.makedirs(f"{room}/crates/{name}/out")
-    Path(room, "crates.txt").write_text("".join(f"{row}: {' '.join(rows[row])}\n" for row in rows), encoding="utf-8")
-    crate, rlibs = next(it for it in crates(room) if it.name == name), {it.name: it.rlib for it in below}
+    rlibs = {it.name: it.rlib for it in every if it.makes_rlib()}
+    build_missing([it for it in every if it.name in rlibs])
+    for it in (*(f"{it.name}/src" for it in every), f"{name}/src", f"{name}/out"):
+        os.makedirs(f"{room}/crates/{it}")
+    listed = " ".join([*rlibs, *sorted({dep for it in every for dep in it.of_kit if dep != "std"})])
+    rows = (TOP / "crates.txt").read_text(encoding="utf-8")
+    Path(room, "crates.txt").write_text(f"{rows}{name}: {listed}\n", encoding="utf-8")
+    crate = next(it for it in crates(room) if it.name == name)
     for it in crate.below():
         it.rlib = rlibs[it.name]
     return crate
@@ -275,20 +272,16 @@ def is_proved(crate):
 
 
 def proved(crate, jobs):
-    """The status of proving the crate and building, as `rt lib` does, a library, or a program, and what was printed."""
-    rt, stamp = load(), crate.stamp()
-    kept, made = f"{crate.folder}/out/rlib", f"out/{crate.name}"
+    """The status of proving the crate and building, as `rt ci` does, a program or a library, and what was printed."""
+    stamp, kept = crate.stamp(), Path(crate.folder, "out/rlib")
+    # (a library with its proofs, so that `rt lib` and other checkouts on this machine take it)
+    crate.cuts_libraries = False
     shutil.rmtree(kept, ignore_errors=True)
-    os.makedirs(kept)
-    words = crate.words(["--jobs", str(jobs)], keeps=False)
-    of_program = ["--toolchain", f"{rt.KIT}/toolchain", "--backend", "llvm", "-o", f"{made}.o"]
-    build = ["build", *words, *(of_program if crate.is_program else ["-o", crate.rlib])]
-    status, said = heard(crate, lambda: crate.prove(build) or (crate.link(f"{made}.o", made) if crate.is_program else 0))
+    kept.mkdir(parents=True)
+    status, said = heard(crate, lambda: crate.ci(["--jobs", str(jobs)], False))
     if not status and stamp == crate.stamp():
-        Path(kept, "stamp").write_text(stamp, encoding="utf-8")
-        if not crate.is_program:
-            # (as `rt lib` does, so that other checkouts on this machine take it)
-            rt.offer(crate, stamp)
+        (kept / "stamp").write_text(stamp, encoding="utf-8")
+        load().offer(crate, stamp)
     return status, said
 
 
