@@ -50,7 +50,7 @@ def uses(whole):
 
 def stated(text, whole):
     """What a text of a file says, with the paths of what it takes from others."""
-    said = [*filter(None, TOKEN.findall(text.replace("::", ".")))]
+    said = list[str](filter(None, TOKEN.findall(text.replace("::", "."))))
     words = frozenset(said)
     paths = sorted(path for name, path in uses(whole) if name in words)
     return Statement(sum_of([said, paths]), words.union(*(TOKEN.findall(BEFORE_TYPES.sub("", it)) for it in paths)))
@@ -117,7 +117,7 @@ class Index:
         edited = [edit.function, *sum(edit.pairs, ()), *(f"{it.owner} {it.trait}" for it in found), *TACTIC.findall(whole)]
         proof = [sources.text_of(it) for it in folder.joinpath("proofs", *edit.function.split("::")).glob("*.antt")]
         own = {stated(it, whole) for it in (" ".join(edited), *turned)}
-        called, cited, said = {word for it in own for word in it.words}, set(), set()
+        called, cited, said = {word for it in own for word in it.words}, set[str](), set[Statement]()
         left = own | {stated(it, it) for it in proof}
         while left:
             said |= left

@@ -222,8 +222,8 @@ def crate_above(room, name):
     every = crates()
     rlibs = {it.name: it.rlib for it in every if it.makes_rlib()}
     build_missing([it for it in every if it.name in rlibs])
-    for it in (*(f"{it.name}/src" for it in every), f"{name}/src", f"{name}/out"):
-        os.makedirs(f"{room}/crates/{it}")
+    for folder in (*(f"{it.name}/src" for it in every), f"{name}/src", f"{name}/out"):
+        os.makedirs(f"{room}/crates/{folder}")
     listed = " ".join([*rlibs, *sorted({dep for it in every for dep in it.of_kit if dep != "std"})])
     rows = (TOP / "crates.txt").read_text(encoding="utf-8")
     Path(room, "crates.txt").write_text(f"{rows}{name}: {listed}\n", encoding="utf-8")
