@@ -58,21 +58,21 @@ def in_the_dark(svg, colours):
     return re.sub(r"(<svg[^>]*>)", lambda it: f"{it[1]}\n{style}", svg, count=1)
 
 
-def mark(data, by):
+def mark(data, by="checks/pictures.py"):
     return f"<!-- drawn from {hashlib.sha256(data).hexdigest()[:16]} by {by} -->"
 
 
-def mark_of_page(text):
-    return mark((text + repr(DARK)).encode(), "checks/pictures.py")
+def marks():
+    """The last line of each picture."""
+    own = {path: mark((text + repr(DARK)).encode()) for path, text in sources_of().items()}
+    return {**own, TOP / "bench/choice.svg": mark_of_bench()}
 
 
 def wrong():
     """What is wrong with the pictures that are there."""
-    for path, text in sources_of().items():
-        if not path.is_file() or mark_of_page(text) not in text_of(path):
-            yield f"{path.relative_to(TOP)}: isn't drawn from its source as that is: run checks/pictures.py"
-    if mark_of_bench() not in text_of(TOP / "bench/choice.svg"):
-        yield "bench/choice.svg: isn't drawn from bench/figures.txt as that is: run bench/plot.py"
+    for path, line in marks().items():
+        if not path.is_file() or line not in text_of(path):
+            yield f"{path.relative_to(TOP)}: isn't drawn from its source as that is: run {line.split()[-2]}"
 
 
 def mark_of_bench():
@@ -88,7 +88,7 @@ def main():
         drawn = subprocess.run(["dot", "-Tsvg"], input=text, capture_output=True, text=True, check=True).stdout
         # (the version of graphviz doesn't belong in the file)
         drawn = re.sub(r"(?s)<!DOCTYPE.*?>\s*|<!--.*?-->\s*", "", drawn).rstrip()
-        path.write_text(f"{in_the_dark(drawn, DARK)}\n{mark_of_page(text)}\n", encoding="utf-8")
+        path.write_text(f"{in_the_dark(drawn, DARK)}\n{marks()[path]}\n", encoding="utf-8")
 
 
 if __name__ == "__main__":

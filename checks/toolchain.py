@@ -67,7 +67,7 @@ def version():
 @functools.lru_cache(maxsize=None)
 def load():
     """The toolchain's `rt`, as a module. What stands below a crate is read as statements, as under `rt ci`."""
-    found = shutil.which("rt") or sys.exit("there is no rt on the PATH")
+    found = shutil.which("rt") or sys.exit("Rattle's rt isn't on the PATH: what isn't proved and built yet needs it")
     if version() != VERSION:
         sys.exit(f"checks/toolchain.py is for '{VERSION}', and not for '{version()}': see that what it names still stands")
     path = os.path.realpath(found)
