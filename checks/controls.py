@@ -125,7 +125,7 @@ class Index:
             # (a function calls what a macro of it calls)
             called.update(*(it.words for it in left if "macro_rules" in it.words))
             left = {it for name, needs, it in self.every if needs <= cited and (not name or name in called)} - said
-        return sum_of([self.kit, *sorted(it.sum for it in said)])
+        return sum_of([self.kit, *sorted(it.sum for it in said)])[:8]
 
 
 class Accepted:
