@@ -12,7 +12,6 @@ import shutil
 import subprocess
 import sys
 import tempfile
-from concurrent.futures import ThreadPoolExecutor
 from pathlib import Path
 
 TOP = Path(__file__).resolve().parent.parent
@@ -96,11 +95,11 @@ def crates(top=TOP):
 
 def wrong_layouts():
     """The files that aren't laid out as `rt fmt` does. (`rt ci` says so only when it comes to the crate, after those below.)"""
-    every, checks = crates(), lambda it: load().rtlib.fmt(it.folder, "--check", it.out, diff=subprocess.DEVNULL)
-    with ThreadPoolExecutor(processors()) as pool:
-        for crate, (_, said) in zip(every, pool.map(lambda it: heard(it, lambda: checks(it)), every)):
-            files = (os.path.relpath(it, TOP) for it in NOT_LAID_OUT.findall(said))
-            yield from (f"{it}: not in the layout: run rt fmt in crates/{crate.name}" for it in files)
+    rt, out = load().rtlib, subprocess.DEVNULL
+    files = [file for it in crates() for file in rt.files_of(it.folder) if file.endswith((".rt", ".antt"))]
+    ran = subprocess.run([rt.RATTLE, "fmt", "--check", *files], stdin=out, stdout=out, stderr=subprocess.PIPE, errors="replace")
+    for file in (os.path.relpath(it, TOP) for it in NOT_LAID_OUT.findall(ran.stderr)):
+        yield f"{file}: not in the layout: run rt fmt in {'/'.join(file.split('/')[:2])}"
 
 
 def is_built(library):
