@@ -94,20 +94,20 @@ def of_library(every, crate):
             yield head + "\n".join(items) + "\n"
 
 
-def of_promise(every, promise):
-    edits = {name: it for name in promise.mutants if (it := sources.one_of(every.mutants, name))}
+def of_promise(every, promise, tests):
     lines = [
-        f"`{name}` edits `{it.function}` of `{it.crate}`, and {', '.join(it.clauses)} refuses it: {it.promise}."
-        + " It stays." * (name in promise.kept)
-        for name, it in edits.items()
+        f"`{it.name}` edits `{it.function}` of `{it.crate}`, and {', '.join(it.clauses)} refuses it: {it.breaks}."
+        + " It stays." * (f"{promise}!" in it.shows)
+        for it in every.shown[promise]
     ]
-    lines += [f"test `{name}` in {it.file if (it := sources.one_of(every.tests, name)) else name}" for name in promise.tests]
-    return f"## {promise.promise}\n\n" + "\n".join(map(wrapped, lines)) + "\n"
+    lines += [f"test `{name}` in {it.file if (it := sources.one_of(every.tests, name)) else name}" for name in tests]
+    return f"## {promise}\n\n" + "\n".join(map(wrapped, lines)) + "\n"
 
 
 def main():
     name, every = arguments.parser(__doc__, name="?").parse_args().name, sources.Sources()
-    promises = {it.promise: of_promise(every, it) for it in sources.evidence()}
+    tests = dict(every.evidence)
+    promises = {it: of_promise(every, it, tests.get(it, ())) for it in dict.fromkeys([*tests, *every.shown])}
     libraries = sorted(it.parents[1].name for it in TOP.glob("crates/*/src/lib.rt"))
     pages = {"files": [FILES], "evidence": [EVIDENCE, *promises.values()]}
     pages |= {it: [*of_library(every, it)] for it in libraries if not sources.NOT_FOR_CALLERS.fullmatch(it)}

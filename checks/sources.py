@@ -29,11 +29,10 @@ NOT_FOR_CALLERS = re.compile(r"intaglio_c|refused_allocations|bench|tests|exampl
 
 # A function: where it is, the impl or trait that it stands in, its clauses by their names, and whether it is a test.
 Function = make_dataclass("Function", "crate file line owner trait name clauses is_test text".split(), frozen=True, eq=False)
-# An edit, a mutant or a control: the function that it turns, the clauses by which it is refused, and the promise that it breaks.
-Edit = namedtuple("Edit", "crate kind name path function clauses promise beside file pairs")
+# An edit, a mutant or a control: the function that it turns, the promises that it shows, with a `!` if it stays as long as its
+# clauses do, those by which it is refused, and what it breaks.
+Edit = namedtuple("Edit", "crate kind name path function shows clauses breaks beside file pairs")
 MUTANT, CONTROL = "mutant", "control"
-# What shows a promise, by evidence.txt: mutants and tests, and those of the mutants that stay as long as their clauses do.
-Evidence = namedtuple("Evidence", "promise mutants tests kept")
 
 
 def text_of(path, errors="strict"):
@@ -44,12 +43,6 @@ def paragraphs(name):
     """The lines of a list in this folder, without comments, each with the indented ones that go on with it."""
     text = re.sub(r"(?m)^#.*\n", "", text_of(TOP / "checks" / name))
     return [*filter(None, re.sub(r"\n +", " ", text).split("\n"))]
-
-
-def evidence():
-    for promise, _, names in (it.partition(":") for it in paragraphs("evidence.txt")):
-        mutants, tests = map(str.split, names.partition(";")[::2])
-        yield Evidence(promise, [it.removesuffix("!") for it in mutants], tests, {it[:-1] for it in mutants if it.endswith("!")})
 
 
 def one_of(every, name):
@@ -185,11 +178,11 @@ def edits_in(crate):
             function, block = found[1], block[found.end() :]
         kind, _, name = block.partition("\n")[0].partition(": ")
         lines = dict(re.findall(r"(?m)^(promise|beside|file): (.*)$", block))
-        promise = re.fullmatch(r"([\w, ]+): (.+)", lines.get("promise", ""))
+        promise = re.fullmatch(r"([\w! -]+): ([\w, ]+): (.+)", lines.get("promise", ""))
         pairs = tuple(re.findall(r"(?m)^old: (.*)\nnew: ?(.*)$", block))
         files = {it.file for it in named_by(crate, function) if all(old in it.text for old, _ in pairs)}
         file = lines.get("file") or (files.pop().split("/", 2)[2] if len(files) == 1 else "src/lib.rt")
-        of_promise = (tuple(promise[1].split(", ")), promise[2]) if promise else ((), "")
+        of_promise = (tuple(promise[1].split()), tuple(promise[2].split(", ")), promise[3]) if promise else ((), (), "")
         beside = tuple(lines.get("beside", "").split())
         edits.append(Edit(crate, kind, name, f"{path.relative_to(TOP)}: {name}", function, *of_promise, beside, file, pairs))
     return edits
@@ -227,6 +220,12 @@ class Sources:
             self.edits += edits_in(folder.name)
         self.mutants = [it for it in self.edits if it.kind == MUTANT]
         self.tests = [it for it in self.functions if it.is_test]
+        # What shows each promise: its mutants, and the names of its tests.
+        self.shown = collections.defaultdict[str, list[Edit]](list)
+        for edit in self.mutants:
+            for it in edit.shows:
+                self.shown[it.removesuffix("!")].append(edit)
+        self.evidence = [(it.partition(":")[0], it.partition(":")[2].split()) for it in paragraphs("evidence.txt")]
 
     def is_public(self, function):
         """Whether callers of its crate can call a function: in its root or a public module, or as it is re-exported."""
