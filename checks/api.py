@@ -100,7 +100,8 @@ def of_promise(every, promise, tests):
         + " It stays." * (f"{promise}!" in it.shows)
         for it in every.shown[promise]
     ]
-    lines += [f"test `{name}` in {it.file if (it := sources.one_of(every.tests, name)) else name}" for name in tests]
+    files = {name: it.file for it in every.tests for name in (it.name, f"{it.crate}/{it.name}")}
+    lines += [f"test `{it}` in {files.get(it, it)}" for it in tests]
     return f"## {promise}\n\n" + "\n".join(map(wrapped, lines)) + "\n"
 
 

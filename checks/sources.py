@@ -45,12 +45,6 @@ def paragraphs(name):
     return [*filter(None, re.sub(r"\n +", " ", text).split("\n"))]
 
 
-def one_of(every, name):
-    """What CRATE/NAME or NAME is of these, or nothing if there are none or several."""
-    found = [it for it in every if name in (it.name, f"{it.crate}/{it.name}")]
-    return found[0] if len(found) == 1 else None
-
-
 def rows_of_crates():
     """The crates of crates.txt by their names, each with those that its line lists, and with the line's comment."""
     rows = re.findall(r"(?m)^(\w+)[^:#\n]*:?([^#\n]*)(.*)", text_of(TOP / "crates.txt"))

@@ -5,13 +5,13 @@ of its prover. `load` stops under another version than the one below: see then t
 import functools
 import hashlib
 import importlib.machinery
-import importlib.util
 import os
 import re
 import shutil
 import subprocess
 import sys
 import tempfile
+import types
 from pathlib import Path
 
 TOP = Path(__file__).resolve().parent.parent
@@ -54,8 +54,6 @@ SPOILT = re.compile(r": error: `spoilt`: ")
 HELD_OF_NEED = 0.5
 # How `rt` names the task of proving a crate.
 PROOF = "proof"
-# The locks on crates that are held until this process ends.
-HELD: list = []
 
 
 @functools.lru_cache(maxsize=None)
@@ -71,11 +69,9 @@ def load():
         sys.exit(f"checks/toolchain.py is for '{VERSION}', and not for '{version()}': see that what it names still stands")
     path = os.path.realpath(found)
     sys.path.insert(0, os.path.dirname(path))
-    loader = importlib.machinery.SourceFileLoader("rt", path)
-    spec = importlib.util.spec_from_loader("rt", loader)
-    assert spec
-    module = importlib.util.module_from_spec(spec)
-    loader.exec_module(module)
+    module = types.ModuleType("rt")
+    module.__file__ = path
+    importlib.machinery.SourceFileLoader("rt", path).exec_module(module)
     module.Crate.cuts_libraries = True
     module.rtlib.Crate = module.Crate
     # (a verdict's last line may end in KEPT_WORK, as it does over a library that `rt lib` made)
@@ -258,7 +254,7 @@ def standing_on(names):
     every = {it.name: it for it in crates()}
     wanted = [every.get(it) or sys.exit(f"crates.txt lists no {it}") for it in names]
     found = [*dict.fromkeys(it for crate in wanted for it in (*crate.below(), crate))]
-    HELD.append(load().rtlib.lock(found))
+    load().rtlib.lock(found)
     return found
 
 
@@ -300,7 +296,7 @@ def copied_proofs(repository, names):
     """Copies what `rt lib` made of these crates, lowest first, to a repository that has the same sources of them and of those
     below. Returns the names of those that are proved there now. No other `rt` works in them from now on."""
     here, there = ({it.name: it for it in crates(top)} for top in (TOP, repository))
-    HELD.append(load().rtlib.lock([of[it] for of in (here, there) for it in names]))
+    load().rtlib.lock([of[it] for of in (here, there) for it in names])
     for mine, theirs in ((here[it], there[it]) for it in names):
         if mine.is_built() and not theirs.is_built() and mine.stamp() == theirs.stamp():
             to, whole = Path(theirs.folder, "out/rlib"), Path(theirs.folder, "out/copied")
