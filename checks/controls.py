@@ -32,7 +32,6 @@ TACTIC = re.compile(r"#!?\[tactic.*\]")
 ITEM = re.compile(r"(?m)^(?=#|(?:pub|impl|struct|enum|trait|type|const|static|unsafe|macro_rules!|ghost|use|mod)\b)")
 ATTRIBUTES = re.compile(r"(?m)^(?:#\[(?:[^][]|\[[^]]*\])*\]\s*)+")
 NAMED = re.compile(r"(?:pub(?:\(\w+\))? )?(?:(?:struct|enum|trait|type|const|static) |macro_rules! )(\w+)")
-CONSTANT = re.compile(r" *(?:pub(?:\(\w+\))? )?const fn")
 # What a part of a file says: a checksum of it, and its words with the names of what it takes from others.
 Statement = collections.namedtuple("Statement", "sum words")
 
@@ -65,7 +64,7 @@ def source(crate, path):
     functions, items = [], []
     for it in sources.functions_in(crate, path)[0]:
         lines, is_of_impl = it.text.split("\n"), it.trait not in ("", it.owner)
-        head = it.text if CONSTANT.match(it.text) else "\n".join(lines[: len(sources.header_of(lines))])
+        head = it.text if "const fn" in lines[0] else "\n".join(lines[: len(sources.header_of(lines))])
         rest = rest.replace(it.text, head * is_of_impl, 1)
         functions += [(it.name, it.owner, stated(head, whole))] * (not is_of_impl)
     rest = ATTRIBUTES.sub(lambda it: " ".join(it[0].split()) + " ", TACTIC.sub("", re.sub(r"(?m)^ *//.*\n", "", rest)))
@@ -97,7 +96,7 @@ class Index:
     words that must be cited for it to count."""
 
     def __init__(self, crate):
-        self.kit, folders = toolchain.version(), [TOP / "crates" / it.name for it in (*crate.below(), crate)]
+        folders = [TOP / "crates" / it.name for it in (*crate.below(), crate)]
         files = [source(it.name, path) for it in folders for path in it.glob("src/**/*.rt")]
         self.every = [(name, {owner} - {""}, said) for functions, _ in files for name, owner, said in functions]
         items = [it for _, items in files for it in items]
@@ -125,7 +124,7 @@ class Index:
             # (a function calls what a macro of it calls)
             called.update(*(it.words for it in left if "macro_rules" in it.words))
             left = {it for name, needs, it in self.every if needs <= cited and (not name or name in called)} - said
-        return sum_of([self.kit, *sorted(it.sum for it in said)])[:8]
+        return sum_of([toolchain.VERSION, *sorted(it.sum for it in said)])[:8]
 
 
 class Accepted:

@@ -57,17 +57,12 @@ PROOF = "proof"
 
 
 @functools.lru_cache(maxsize=None)
-def version():
-    return subprocess.run(["rt", "version"], capture_output=True, text=True).stdout.strip()
-
-
-@functools.lru_cache(maxsize=None)
 def load():
     """The toolchain's `rt`, as a module. What stands below a crate is read as statements, as under `rt ci`."""
-    found = shutil.which("rt") or sys.exit("Rattle's rt isn't on the PATH: what isn't proved and built yet needs it")
-    if version() != VERSION:
-        sys.exit(f"checks/toolchain.py is for '{VERSION}', and not for '{version()}': see that what it names still stands")
-    path = os.path.realpath(found)
+    path = os.path.realpath(shutil.which("rt") or sys.exit("Rattle's rt isn't on the PATH: what isn't proved yet needs it"))
+    version = subprocess.run([path, "version"], capture_output=True, text=True).stdout.strip()
+    if version != VERSION:
+        sys.exit(f"checks/toolchain.py is for '{VERSION}', and not for '{version}': see that what it names still stands")
     sys.path.insert(0, os.path.dirname(path))
     module = types.ModuleType("rt")
     module.__file__ = path
