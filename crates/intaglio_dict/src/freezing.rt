@@ -60,15 +60,7 @@ pub fn freeze<R: Files + RandomSource + Input + Print + Tell + AllocGlobal>(
         shown: Shown::new(rt, is_shown),
         count: 0,
     };
-    match shards_of(rt, found)? {
-        Some(shards) => freezing.write_folder(rt, name, shards)?,
-        None => write_to(rt, name, &mut freezing)?,
-    }
-    if found.get_flag("VERBOSE") {
-        report::count(rt, freezing.count, "lines frozen");
-        report::count(rt, freezing.shown.distinct as u64, "distinct lines");
-    }
-    Ok(())
+    freezing.write_all(rt, found, name)
 }
 
 // The arguments take no other kind.
@@ -93,6 +85,19 @@ impl<R: Files + RandomSource + Input + Print + Tell + AllocGlobal> Payload<R> fo
 }
 
 impl<R: Files + RandomSource + Input + Print + Tell + AllocGlobal> Freezing<'_, R> {
+    // Writes the dictionary to a file, or to a folder of shards if the arguments say so.
+    fn write_all(&mut self, rt: &R, found: &ArgMatches<'_>, name: &str) -> Result<(), u8> {
+        match shards_of(rt, found)? {
+            Some(shards) => self.write_folder(rt, name, shards)?,
+            None => write_to(rt, name, self)?,
+        }
+        if found.get_flag("VERBOSE") {
+            report::count(rt, self.count, "lines frozen");
+            report::count(rt, self.shown.distinct as u64, "distinct lines");
+        }
+        Ok(())
+    }
+
     // Writes the dictionary to a folder of so many shards.
     fn write_folder(&mut self, rt: &R, folder: &str, shards: u32) -> Result<(), u8>
         requires { 0 < shards }

@@ -22,7 +22,8 @@ use intaglio_columns::error::{FreezingError, ShardMergeError};
 use intaglio_columns::merging::{merge, merged_tables};
 use intaglio_columns::shard_merging::merge_shard;
 use intaglio_columns::sharding::ShardedList;
-use intaglio_frozen::{FreezeError, Frozen, Header, SetId};
+use intaglio_frozen::{FreezeError, Frozen, Header, Merged, SetId};
+use intaglio_hash::KeyedState;
 use intaglio_symbol::Symbol;
 use std::random::RandomSource;
 use std::rt::Files;
@@ -58,29 +59,18 @@ pub fn merge_dictionaries<R: Files + RandomSource + Input + Print + Tell + Alloc
     let (Some(names), Some(output)) = (found.get_strs("DICT"), found.get_str("OUT")) else {
         return Err(2);
     };
+    let keys = keys_of(rt, found)?;
     let mut merging = Merging {
         names,
         output,
         maps: found.get_str("MAPS"),
-        keys: keys_of(rt, found)?,
+        keys,
         shown: Shown::new(rt, found.get_flag("PROGRESS")),
         strings: 0,
         distinct: 0,
     };
     let mut meter = meter_of(rt, names, found.get_flag("PROGRESS"));
-    if let Some(shard) = shard_of(rt, found)? {
-        let _parts = merging.merge_shard(rt, shard, None)?;
-    } else if let Some(shards) = shards_of(rt, found)? {
-        merging.share_out(rt, shards, &mut meter)?;
-    } else {
-        merging.merge_whole(rt, &mut meter)?;
-    }
-    if found.get_flag("VERBOSE") {
-        report::count(rt, names.len() as u64, "dictionaries merged");
-        report::count(rt, merging.strings, "strings merged");
-        report::count(rt, merging.distinct, "distinct strings");
-    }
-    Ok(())
+    merging.merge_all(rt, found, &mut meter)
 }
 
 // The number after --shard, if it is there.
@@ -98,6 +88,23 @@ fn shard_of<R: Tell>(rt: &R, found: &ArgMatches<'_>) -> Result<Option<u32>, u8> 
 }
 
 impl<R: Files + RandomSource + Input + Print + Tell + AllocGlobal> Merging<'_, '_, R> {
+    // Merges one shard, or shares out, or merges dictionaries whole, as the arguments say.
+    fn merge_all(&mut self, rt: &R, found: &ArgMatches<'_>, meter: &mut Meter) -> Result<(), u8> {
+        if let Some(shard) = shard_of(rt, found)? {
+            let _parts = self.merge_shard(rt, shard, None)?;
+        } else if let Some(shards) = shards_of(rt, found)? {
+            self.share_out(rt, shards, meter)?;
+        } else {
+            self.merge_whole(rt, meter)?;
+        }
+        if found.get_flag("VERBOSE") {
+            report::count(rt, self.names.len() as u64, "dictionaries merged");
+            report::count(rt, self.strings, "strings merged");
+            report::count(rt, self.distinct, "distinct strings");
+        }
+        Ok(())
+    }
+
     // Merges dictionaries in files to a file, or folders of shards to a folder, one shard after the other.
     fn merge_whole(&mut self, rt: &R, meter: &mut Meter) -> Result<(), u8> {
         let first = self.names.first().copied().unwrap_or("");
@@ -115,8 +122,15 @@ impl<R: Files + RandomSource + Input + Print + Tell + AllocGlobal> Merging<'_, '
     // Merges dictionaries in files to a file.
     fn merge_files(&mut self, rt: &R, meter: &mut Meter) -> Result<(), u8> {
         let parts = read_parts(rt, self.names, None, meter)?;
-        let tables = tables_of(rt, &parts.names, &parts.files)?;
+        let (bytes, maps) = self.merged_whole(rt, &parts)?;
+        self.write_maps(rt, &parts, &bytes, &maps)?;
+        write_to(rt, self.output, &mut Bytes { bytes: &bytes })
+    }
+
+    // The bytes of the merged dictionary, and the map of each part.
+    fn merged_whole(&mut self, rt: &R, parts: &Parts) -> Result<(Vec<u8>, Vec<Vec<Symbol>>), u8> {
         let (builder, kind) = (random_builder(rt)?, common_kind(&parts.files));
+        let tables = tables_of(rt, &parts.names, &parts.files)?;
         match merge(
             rt.alloc(),
             &tables,
@@ -125,10 +139,7 @@ impl<R: Files + RandomSource + Input + Print + Tell + AllocGlobal> Merging<'_, '
             builder,
             &mut self.shown,
         ) {
-            Ok((bytes, maps)) => {
-                self.write_maps(rt, &parts, &bytes, &maps)?;
-                write_to(rt, self.output, &mut Bytes { bytes: &bytes })
-            }
+            Ok(made) => Ok(made),
             Err(refused) => Err(refusal(rt, self.output, refused, None)),
         }
     }
@@ -142,24 +153,38 @@ impl<R: Files + RandomSource + Input + Print + Tell + AllocGlobal> Merging<'_, '
         before: Option<&[Header]>,
     ) -> Result<Vec<Header>, u8> {
         let parts = read_parts(rt, self.names, Some(shard), &mut Meter::silent())?;
-        let found = sets_of(rt, &parts)?;
         if let Some(before) = before {
             self.check_sets(rt, shard, before, &parts.headers)?;
         }
+        self.merge_parts(rt, shard, &parts)?;
+        Ok(parts.headers)
+    }
+
+    // Merges the same shard of all parts.
+    fn merge_parts(&mut self, rt: &R, shard: u32, parts: &Parts) -> Result<(), u8> {
+        let (bytes, maps) = self.merged_parts(rt, shard, parts)?;
+        make_folder(rt, self.output)?;
+        self.write_maps(rt, parts, &bytes, &maps)?;
+        let Ok(name) = shard_name(rt.alloc(), self.output, shard) else {
+            return Err(report::out_of_memory(rt));
+        };
+        write_to(rt, name.as_str(), &mut Bytes { bytes: &bytes })
+    }
+
+    // The bytes of a merged shard, and the map of each part.
+    fn merged_parts(
+        &mut self,
+        rt: &R,
+        shard: u32,
+        parts: &Parts,
+    ) -> Result<(Vec<u8>, Vec<Vec<Symbol>>), u8> {
+        let sets = sets_of(rt, parts)?;
+        let tables = tables_of(rt, &parts.names, &parts.files)?;
         let shards = parts
             .headers
             .first()
             .map_or(1, |header| header.place.shards);
-        let tables = tables_of(rt, &parts.names, &parts.files)?;
-        let (bytes, maps) = self.merged(rt, &parts, &tables, &found, (shards, shard))?;
-        drop(tables);
-        make_folder(rt, self.output)?;
-        self.write_maps(rt, &parts, &bytes, &maps)?;
-        let Ok(name) = shard_name(rt.alloc(), self.output, shard) else {
-            return Err(report::out_of_memory(rt));
-        };
-        write_to(rt, name.as_str(), &mut Bytes { bytes: &bytes })?;
-        Ok(parts.headers)
+        self.merged(rt, parts, &tables, &sets, (shards, shard))
     }
 
     // The bytes of a merged shard, by its place among so many, and the map of each part.
@@ -247,15 +272,20 @@ impl<R: Files + RandomSource + Input + Print + Tell + AllocGlobal> Merging<'_, '
         requires { 0 < shards }
     {
         let parts = read_parts(rt, self.names, None, meter)?;
-        let tables = tables_of(rt, &parts.names, &parts.files)?;
-        let (builder, kind) = (random_builder(rt)?, common_kind(&parts.files));
-        let merged = match merged_tables(rt.alloc(), &tables, builder) {
-            Ok(merged) => merged,
-            Err(refused) => return Err(refusal(rt, self.output, refused, None)),
-        };
+        let (merged, kind) = (self.union_of(rt, &parts)?, common_kind(&parts.files));
         match ShardedList::of(rt.alloc(), &merged.table, kind, shards) {
             Ok(shared) => self.write_shared(rt, &parts, &merged.maps, &shared),
             Err(_) => Err(report::out_of_memory(rt)),
+        }
+    }
+
+    // The strings of all parts, and the map of each.
+    fn union_of(&self, rt: &R, parts: &Parts) -> Result<Merged<KeyedState>, u8> {
+        let builder = random_builder(rt)?;
+        let tables = tables_of(rt, &parts.names, &parts.files)?;
+        match merged_tables(rt.alloc(), &tables, builder) {
+            Ok(merged) => Ok(merged),
+            Err(refused) => Err(refusal(rt, self.output, refused, None)),
         }
     }
 
@@ -276,13 +306,24 @@ impl<R: Files + RandomSource + Input + Print + Tell + AllocGlobal> Merging<'_, '
         if let Some(folder) = self.maps {
             make_folder(rt, folder)?;
             for (header, symbols) in parts.headers.iter().zip(maps.iter()) {
-                let Ok(codes) = shared.codes(rt.alloc(), symbols) else {
-                    return Err(report::out_of_memory(rt));
-                };
-                Maps { folder, to }.write(rt, header, &codes)?;
+                write_shared_map(rt, Maps { folder, to }, header, shared, symbols)?;
             }
         }
         write_shards(rt, self.output, shared, self.keys, &mut self.shown)
+    }
+}
+
+// Writes the map of a part whose strings have these symbols in the merged list.
+fn write_shared_map<R: Files + RandomSource + Print + Tell + AllocGlobal>(
+    rt: &R,
+    maps: Maps<'_>,
+    header: &Header,
+    shared: &ShardedList<'_>,
+    symbols: &[Symbol],
+) -> Result<(), u8> {
+    match shared.codes(rt.alloc(), symbols) {
+        Ok(codes) => maps.write(rt, header, &codes),
+        Err(_) => Err(report::out_of_memory(rt)),
     }
 }
 

@@ -46,7 +46,7 @@ fn run_on_files<R: Files + RandomSource + Input + Print + Tell + AllocGlobal>(
     name: &str,
     found: &ArgMatches<'_>,
 ) -> u8 {
-    let Ok(files) = files_of(rt.alloc(), name, found) else {
+    let Ok(mut files) = files_of(rt.alloc(), name, found) else {
         return report::out_of_memory(rt);
     };
     match files.check(rt) {

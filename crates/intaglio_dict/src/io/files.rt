@@ -86,7 +86,7 @@ impl<'a> CommandFiles<'a> {
     /// Checks, before anything is read or written, that no output is also an input or another output, that no
     /// input is in a folder that is written, and that standard input is one input at most. Otherwise the exit
     /// status after a message.
-    pub fn check<R: Files + Tell + AllocGlobal>(mut self, rt: &R) -> Result<(), u8> {
+    pub fn check<R: Files + Tell + AllocGlobal>(&mut self, rt: &R) -> Result<(), u8> {
         if !self.has_output && self.add_output(None).is_err() {
             return Err(report::out_of_memory(rt));
         }
@@ -110,13 +110,23 @@ impl<'a> CommandFiles<'a> {
         ) else {
             return Err(report::out_of_memory(rt));
         };
-        check_messages(&messages, &inputs, &outputs)?;
-        check_outputs(rt, &outputs)?;
+        self.check_named(rt, &messages, &inputs, &mut outputs)
+    }
+
+    fn check_named<R: Files + Tell + AllocGlobal>(
+        &self,
+        rt: &R,
+        messages: &Identity,
+        inputs: &[Named],
+        outputs: &mut Vec<Named>,
+    ) -> Result<(), u8> {
+        check_messages(messages, inputs, outputs)?;
+        check_outputs(rt, outputs)?;
         check_given(rt, &self.outputs, &self.folders)?;
-        if add_folders(rt, &self.folders, &mut outputs).is_err() {
+        if add_folders(rt, &self.folders, outputs).is_err() {
             return Err(report::out_of_memory(rt));
         }
-        check_inputs(rt, &inputs, &outputs)
+        check_inputs(rt, inputs, outputs)
     }
 
     // The inputs, and what is in those that are folders.

@@ -6,6 +6,7 @@ use crate::io::report;
 use crate::io::report::Tell;
 use intaglio_frozen::SetId;
 use std::alloc::{AllocError, Global};
+use std::fs::DirEntry;
 use std::io::ErrorKind;
 use std::rt::Files;
 use std::{fs, io};
@@ -75,12 +76,22 @@ fn names_in<R: Files + AllocGlobal>(rt: &R, folder: &str) -> io::Result<Vec<Stri
         Err(_) => return Ok(names),
     };
     for entry in entries {
-        match entry {
-            Ok(entry) => names.push(String::from_str(rt.alloc(), entry.path().as_str())?)?,
-            Err(e) if e.kind() == ErrorKind::OutOfMemory => return Err(e),
-            // (A name that isn't UTF-8 is that of no file which a command reads or writes.)
-            Err(_) => {}
+        if let Some(name) = path_of(rt.alloc(), entry)? {
+            names.push(name)?;
         }
     }
     Ok(names)
+}
+
+// The name of what was read of a folder. (One that isn't UTF-8 is that of no file which a command reads or
+// writes.)
+fn path_of<R: Files + Drop>(
+    alloc: Global,
+    entry: io::Result<DirEntry<R>>,
+) -> io::Result<Option<String>> {
+    match entry {
+        Ok(entry) => Ok(Some(String::from_str(alloc, entry.path().as_str())?)),
+        Err(e) if e.kind() == ErrorKind::OutOfMemory => Err(e),
+        Err(_) => Ok(None),
+    }
 }
