@@ -23,20 +23,19 @@ CONTENTS = {
 }
 # What is otherwise read from standard input.
 NUMBERS = {"3": b"3\n0\n"}
-# A command: its words, what its inputs are, behind their options, its outputs, of which one with ! isn't standard output if it
-# isn't named, and whether the last input is standard input if it isn't named.
-Command = namedtuple("Command", "words inputs outputs reads_standard", defaults=(False,))
-ROWS: tuple[tuple, ...] = (
-    ("freeze", "lines", "-o! --column", True), ("freeze", "lines, lines", "-o!"),
-    ("find", "dict, lines", "stdout", True), ("get", "dict, 3", "stdout", True), ("list", "dict", "stdout"),
-    ("check", "dict, column", "stdout"), ("stat", "dict", "stdout"),
-    ("encode", "dict, lines", "-o", True), ("encode --raw", "dict, lines, lines", "-o"),
-    ("decode", "dict, column", "-o", True), ("decode --raw", "dict, codes", "-o", True),
+# A command: its words, what its inputs are, behind their options, of which one with ? is standard input if it isn't named, and
+# its outputs, of which one with ! isn't standard output if it isn't named.
+Command = namedtuple("Command", "words inputs outputs")
+ROWS = (
+    ("freeze", "lines?", "-o! --column"), ("freeze", "lines, lines", "-o!"), ("find", "dict, lines?", "stdout"),
+    ("get", "dict, 3?", "stdout"), ("list", "dict", "stdout"), ("check", "dict, column", "stdout"), ("stat", "dict", "stdout"),
+    ("encode", "dict, lines?", "-o"), ("encode --raw", "dict, lines, lines", "-o"),
+    ("decode", "dict, column?", "-o"), ("decode --raw", "dict, codes?", "-o"),
     ("rows", "dict, column, 0", "stdout"), ("count", "dict, column", "stdout"),
     ("match --invert", "dict, column, word0", "stdout"),
     ("renumber --maps maps", "column, --into dict", "-o"), ("merge", "dict, dict", "-o!"),
 )
-COMMANDS = [Command(words, inputs.split(", "), outputs.split(), *others) for words, inputs, outputs, *others in ROWS]
+COMMANDS = [Command(words, inputs.split(", "), outputs.split()) for words, inputs, outputs in ROWS]
 EACH = pytest.mark.parametrize("command", [pytest.param(it, id=f"{it.words} {' '.join(it.inputs)}") for it in COMMANDS])
 # How a file is named: from the folder that the program runs in, with what makes a link to the file.
 NAMES = ("file", "folder/.././file", "folder/link", "link")
@@ -52,8 +51,8 @@ def slots(command):
         option, modes = [what.rstrip("!")] * (what != "stdout"), {">": "wb", ">>": "ab"}
         yield Slot(f"out{number}", "output", option, what, bool(option), what in ("-o", "stdout"), modes)
     for number, what in enumerate(command.inputs, 1):
-        is_standard = command.reads_standard and number == len(command.inputs)
-        yield Slot(f"in{number}", "input", what.split()[:-1], what, what in CONTENTS, is_standard, {"<": "rb"})
+        named = what.rstrip("?")
+        yield Slot(f"in{number}", "input", what.split()[:-1], named, named in CONTENTS, what != named, {"<": "rb"})
 
 
 def ways(slot, is_there):
@@ -112,8 +111,9 @@ def refused(command):
         else:
             contents = [(CONTENTS | NUMBERS)[it] for it in [second.what] if it in CONTENTS | NUMBERS]
         if first.role == "input" and first.what in CONTENTS and contents:
-            given = {it.name: Way("", ("-",), "rb") if it.is_named else Way("") for it in (first, second)}
-            yield f"{first.name}, {second.name}: standard input twice", given, WAS, said(2, ONE_STANDARD_INPUT)
+            for words in [("-",)] * second.is_named + [()] * second.is_standard:
+                given = {first.name: Way("", ("-",), "rb"), second.name: Way("", words)}
+                yield f"{first.name} -, {second.name} {words}: standard input twice", given, WAS, said(2, ONE_STANDARD_INPUT)
         for content in contents if first.role == "output" else ():
             for one, other in itertools.product(*(ways(it, content is not None) for it in (first, second))):
                 called = f"{first.name} {one.called}, {second.name} {other.called}{'' if content else ', not there'}"
