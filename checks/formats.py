@@ -1,11 +1,11 @@
-"""Readers and writers of dictionaries, columns, maps and plain codes, from docs/FORMATS.md alone, without the library."""
+"""Readers and writers of dictionaries, columns, maps and plain codes, from docs/FORMATS.md alone, without the library. Faults
+of files have the names that the library has for them, and more words behind a colon, such as the number of a string or row."""
 
 import functools
 import itertools
 import os
 import struct
 from collections import namedtuple
-from collections.abc import Sequence
 from itertools import pairwise
 from pathlib import Path
 from typing import NamedTuple
@@ -93,8 +93,8 @@ class Sections:
         return scaled(self.places, mixed(number, pilots[scaled(self.groups, number)]))
 
 
-class Frozen(Sequence):
-    """A table over its bytes. A trusted one is read by its header alone."""
+class Frozen(list):
+    """The strings of a table, and how they are found in it. A trusted one is read by its header alone."""
 
     def __init__(self, data, is_trusted=False):
         if not is_trusted and (faults := table_faults(data)):
@@ -105,15 +105,7 @@ class Frozen(Sequence):
         found = struct.unpack_from(f"<{at.places}I{count}I{at.groups}H", data, at.symbols)
         self.symbols, self.ends, self.pilots = found[: at.places], found[at.places : -at.groups], found[-at.groups :]
         self.tags, self.text = data[at.tags : at.text], data[at.text :]
-
-    def __len__(self):
-        return len(self.ends)
-
-    def __getitem__(self, symbol):
-        """The string of a symbol."""
-        if not 0 <= symbol < len(self):
-            raise IndexError(symbol)
-        return self.text[self.ends[symbol - 1] if symbol else 0 : self.ends[symbol]]
+        super().__init__(self.text[start:end] for start, end in pairwise((0, *self.ends)))
 
     def find(self, string):
         """The symbol of a string, or nothing."""
@@ -127,21 +119,22 @@ class Frozen(Sequence):
 def version_faults(data):
     """What is wrong with the version, which stands behind the magic, and is 2 of both formats."""
     version = int.from_bytes(data[8:12], "little")
-    return [{1: "old version"}.get(version, "version")] * (version != 2)
+    return [{1: "OtherVersion: 1"}.get(version, "OtherVersion")] * (version != 2)
 
 
 def table_header_faults(data):
     """What is wrong with the header, and whether what follows it can be read."""
-    faults = ["magic"] * (data[:8] != Header().magic) + (version_faults(data) if len(data) >= 12 else [])
+    faults = ["NotFrozen"] * (data[:8] != Header().magic) + (version_faults(data) if len(data) >= 12 else [])
     if len(data) < TABLE_HEADER.size:
-        return [*faults, "truncated"], False
+        return [*faults, "Truncated"], False
     header = header_of(data)
-    faults += ["kind"] * (header.kind > TEXT) + ["reserved"] * any(header.reserved) + ["shard"] * (header.shard >= header.shards)
-    faults += ["identity"] * (header.shards == 1 and header.set != header.own)
+    faults += ["NoKind"] * (header.kind > TEXT) + ["Reserved"] * any(header.reserved)
+    faults += ["BadShard"] * (header.shard >= header.shards)
+    faults += ["OtherIdentity"] * (header.shards == 1 and header.set != header.own)
     if header.strings > MAX_COUNT:
-        return [*faults, "too many"], False
+        return [*faults, "TooMany"], False
     size = Sections(header.strings).text + header.length
-    faults += ["truncated"] * (len(data) < size) + ["too long"] * (len(data) > size)
+    faults += ["Truncated"] * (len(data) < size) + ["TrailingBytes"] * (len(data) > size)
     return faults, len(data) == size
 
 
@@ -153,14 +146,14 @@ def table_faults(data):
     table = Frozen(data, True)
     ends = (0, *table.ends, len(table.text))
     if any(end < before for before, end in pairwise(ends)) or ends[-2] != ends[-1]:
-        return [*faults, "ends"]
+        return [*faults, "TextEnds"]
     unused = [tag for symbol, tag in zip(table.symbols, table.tags) if symbol == NO_SYMBOL]
     if len(unused) != len(table.symbols) - len(table) or any(unused):
-        faults.append("unused")
-    faults += [f"not found: {symbol}" for symbol, string in enumerate(table) if table.find(string) != symbol]
+        faults.append("Unused")
+    faults += [f"NotFound: {symbol}" for symbol, string in enumerate(table) if table.find(string) != symbol]
     if table.kind == TEXT:
-        faults += [f"not UTF-8: {symbol}" for symbol, string in enumerate(table) if not is_text(string)]
-    return faults + ["identity"] * (table.header.own != id_of_strings([*table], table.kind).identity)
+        faults += [f"NotUtf8: {symbol}" for symbol, string in enumerate(table) if not is_text(string)]
+    return faults + ["OtherIdentity"] * (table.header.own != id_of_strings([*table], table.kind).identity)
 
 
 def is_text(string):
@@ -252,20 +245,15 @@ def header_of_column(data):
 def read_column(data):
     """The column in these bytes."""
     of, _, _, shards, source, _ = header_of_column(data)
-    return Column(of, widened(data, width_for(of.strings)), source, shards)
+    width = width_for(of.strings)
+    codes = struct.unpack_from(f"<{(len(data) - COLUMN_HEADER.size) // width}{CODES[width]}", data, COLUMN_HEADER.size)
+    return Column(of, [MISSING if it == 2 ** (8 * width) - 1 else it for it in codes], source, shards)
 
 
 def sealed(data):
     """The bytes of a column with the checksum of the codes, and then of the header with zeros in place of the checksum."""
     start, end, codes = data[:56], data[64 : COLUMN_HEADER.size], data[COLUMN_HEADER.size :]
     return start + numbers(sip_hash(4, 0, codes + start + bytes(8) + end)) + end + codes
-
-
-def widened(data, width):
-    """The codes behind the header, of four bytes."""
-    count, greatest = (len(data) - COLUMN_HEADER.size) // width, 2 ** (8 * width) - 1
-    codes = struct.unpack_from(f"<{count}{CODES[width]}", data, COLUMN_HEADER.size)
-    return [MISSING if it == greatest else it for it in codes]
 
 
 def begins_as_column(data):
@@ -276,15 +264,16 @@ def begins_as_column(data):
 def column_header_faults(data):
     """What is wrong with the header, and whether what follows it can be read."""
     if len(data) < 12 or data[:8] != COLUMN_MAGIC:
-        return ["magic"], False
-    if faults := version_faults(data) or ["header"] * (len(data) < COLUMN_HEADER.size):
+        return ["NotColumn"], False
+    if faults := version_faults(data) or ["Truncated: header"] * (len(data) < COLUMN_HEADER.size):
         return faults, False
     of, rows, width, shards, source, reserved = header_of_column(data)
-    faults = ["kind"] * (of.kind > TEXT) + ["too many"] * (of.strings > MISSING) + ["width"] * (width != width_for(of.strings))
+    faults = ["NoKind"] * (of.kind > TEXT) + ["TooMany"] * (of.strings > MISSING)
+    faults += ["BadWidth"] * (width != width_for(of.strings))
     is_of_map = source.kind <= TEXT and source.shard < source.shards and source.shards in (1, shards)
-    faults += ["source"] * (not shards or not is_of_map and source != Source()) + ["reserved"] * any(reserved)
+    faults += ["BadShard: source"] * (not shards or not is_of_map and source != Source()) + ["Reserved"] * any(reserved)
     end = COLUMN_HEADER.size + width_for(of.strings) * rows
-    faults += ["truncated"] * (len(data) < end) + ["too long"] * (len(data) > end)
+    faults += ["Truncated"] * (len(data) < end) + ["TrailingBytes"] * (len(data) > end)
     return faults, len(data) == end
 
 
@@ -294,9 +283,9 @@ def column_faults(data):
     if not is_whole:
         return faults
     of, codes, source, _ = read_column(data)
-    faults += ["damaged"] * (sealed(data) != data)
-    faults += [f"no string: {row}" for row, code in enumerate(codes) if code >= of.strings and code != MISSING]
-    return faults + [f"missing: {row}" for row, code in enumerate(codes) if code == MISSING and source.shards]
+    faults += ["Damaged"] * (sealed(data) != data)
+    faults += [f"NoSymbol: {row}" for row, code in enumerate(codes) if code >= of.strings and code != MISSING]
+    return faults + [f"Missing: {row}" for row, code in enumerate(codes) if code == MISSING and source.shards]
 
 
 def packed(codes):
@@ -434,13 +423,12 @@ def put(folder, files):
         Path(folder, name).write_bytes(data)
 
 
-def random_parts(chance, size, kind=BYTES, count=10):
-    """The lines of each part of a column of so many: lines are in several parts, some are empty, and some parts have none."""
+def random_parts(chance, size, kind=BYTES):
+    """The lines of each of ten parts, so many in all: lines are in several parts, some are empty, and some parts have none."""
     many = min(1 + size // 3, 10_000)
     words = [f"{chance.choice(('w', 'é', '漢字 '))}{chance.randrange(size + 1)}".encode() for _ in range(many)] + [b""]
     if kind == BYTES:
         words = [chance.randbytes(chance.randrange(12)).replace(b"\n", b"") for _ in range(many)] + [b"", b"\xff"]
     # (each of the seven places at which it is cut may be drawn several times)
-    places = [chance.randrange(size + 1) for _ in range(7)]
-    cuts = [0, *sorted(chance.choices(places, k=count - 1)), size]
+    cuts = [0, *sorted(chance.choices([chance.randrange(size + 1) for _ in range(7)], k=9)), size]
     return [chance.choices(words, k=end - start) for start, end in pairwise(cuts)]

@@ -9,34 +9,37 @@ import tempfile
 import pytest
 from formats import (
     BYTES, COLUMN_HEADER, MISSING, TEXT, Damaged, Frozen, Source, assembled, begins_as_column, column, column_faults, decoded,
-    dictionary_of, ended, freeze, id_of, packed, put, read_column, sealed, table_faults,
+    dictionary_of, ended, freeze, id_of, is_text, packed, put, read_column, sealed, table_faults,
 )
 from hypothesis import given, seed, settings
 from hypothesis import strategies as st
 from test_answers import NOT_ONE
 from test_columns import commands
-from test_tables import LISTS, table_of
+from test_tables import LISTS
 from tool import NAME, other_dictionary, said
 
 # What messages say of faults; # is a number.
 FAULTS = {
-    "not a frozen table": "magic", NOT_ONE: "magic", "the header is cut short": "header", "another version": "version",
-    "an unknown kind": "kind", "a reserved byte isn't zero": "reserved", "too many strings": "too many",
-    "the file is truncated": "truncated", "the codes are cut short": "truncated", "the strings don't fill the text": "ends",
-    "a place without a string isn't empty": "unused", "another width than that of the number of strings": "width",
-    "there are bytes behind the last row": "too long", "there are bytes behind the strings": "too long",
-    "a dictionary of version 1: freeze its strings again": "old version", "the identity isn't that of the strings": "identity",
-    "the number of the shard isn't below the number of shards": "shard",
-    "a column of version 1: encode its lines again": "old version", "a source of rows that can't be": "source",
-    "damaged: it has another checksum": "damaged",
-    "string # isn't found at its symbol": "not found: #", "string # isn't UTF-8": "not UTF-8: #",
-    "row # has a code that is no symbol": "no string: #", "row # of a map is missing": "missing: #",
+    "not a frozen table": "NotFrozen", NOT_ONE: "NotColumn", "the header is cut short": "Truncated: header",
+    "another version": "OtherVersion", "an unknown kind": "NoKind", "a reserved byte isn't zero": "Reserved",
+    "too many strings": "TooMany", "the file is truncated": "Truncated", "the codes are cut short": "Truncated",
+    "the strings don't fill the text": "TextEnds", "a place without a string isn't empty": "Unused",
+    "another width than that of the number of strings": "BadWidth", "there are bytes behind the last row": "TrailingBytes",
+    "there are bytes behind the strings": "TrailingBytes", "a source of rows that can't be": "BadShard: source",
+    "a dictionary of version 1: freeze its strings again": "OtherVersion: 1", "damaged: it has another checksum": "Damaged",
+    "the identity isn't that of the strings": "OtherIdentity", "a column of version 1: encode its lines again": "OtherVersion: 1",
+    "the number of the shard isn't below the number of shards": "BadShard", "string # isn't found at its symbol": "NotFound: #",
+    "string # isn't UTF-8": "NotUtf8: #", "row # has a code that is no symbol": "NoSymbol: #",
+    "row # of a map is missing": "Missing: #",
 }
 # Where the numbers of a header are.
 FIELDS = (8, 12, 16, 24, 32, 40, 48, 52, 56, 64, 72, 80, 84, 88)
 # How many files one run of the program checks, and how many tests share the damaged files.
 BATCH, TURNS = 50, 16
-SMALL = [table_of(strings, seed) for strings in LISTS.values() for seed in (0, 1)]
+SMALL = [
+    freeze(strings, kind, key0, key1) for strings in LISTS.values()
+    for kind, key0, key1 in ((BYTES, 0, 2**63 + 1), (TEXT if all(map(is_text, strings)) else BYTES, 2**64 - 1, 2**32 + 5))
+]
 # Columns of each width, and a map, each with the table that it is of.
 DICTIONARIES = [
     dictionary_of([b"%d" % it for it in range(count)], 1, TEXT if count == 3 else BYTES) for count in (0, 3, 255, 300)
@@ -197,22 +200,16 @@ def translated(data, text):
         return ended(decoded(STRINGS, codes[: place - 1], text)), [f"code number {place} {what}"]
 
 
-def test_damaged_codes(tool):
+@settings(max_examples=150)
+@given(st.data(), st.lists(st.sampled_from([*range(200), MISSING]), max_size=50), st.sampled_from((1, 400, 800, 3000)))
+def test_damaged_codes(tool, data, codes, times):
     """What the program writes of plain codes, and the first one at which it stops, are what the reader finds."""
-    put(".", {"table": freeze(STRINGS)})
-    codes = st.lists(st.sampled_from([*range(200), MISSING]), max_size=50)
-
-    @settings(max_examples=150)
-    @given(st.data(), codes, st.sampled_from((1, 400, 800, 3000)))
-    def each(data, codes, times):
-        given_codes = packed(codes * times)
-        given_codes = data.draw(damaged(given_codes, [b""])) if data.draw(st.booleans()) else given_codes
-        put(".", {"codes": given_codes})
-        for text, options in ((None, "--raw"), (b"?", "--raw --missing ?")):
-            words, (wanted, faults) = ["decode", *options.split(), "table"], translated(given_codes, text)
-            status, written, told = tool(*words, given=given_codes)
-            assert (status, told) == said(len(faults), *(f"standard input: {it}" for it in faults))[::2]
-            assert wanted.startswith(written) if faults else wanted == written
-            assert not faults or tool.refuses(1, f"codes: {faults[0]}", *words, "codes", "-o", "out")
-
-    each()
+    given_codes = packed(codes * times)
+    given_codes = data.draw(damaged(given_codes, [b""])) if data.draw(st.booleans()) else given_codes
+    put(".", {"table": freeze(STRINGS), "codes": given_codes})
+    for text, options in ((None, "--raw"), (b"?", "--raw --missing ?")):
+        words, (wanted, faults) = ["decode", *options.split(), "table"], translated(given_codes, text)
+        status, written, told = tool(*words, given=given_codes)
+        assert (status, told) == said(len(faults), *(f"standard input: {it}" for it in faults))[::2]
+        assert wanted.startswith(written) if faults else wanted == written
+        assert not faults or tool.refuses(1, f"codes: {faults[0]}", *words, "codes", "-o", "out")

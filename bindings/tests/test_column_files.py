@@ -153,17 +153,12 @@ class OfColumns(Case):
     def test_damaged_columns_are_refused_by_name(self):
         words = self.freeze(texts(3))
         data = self.write(words, [0, 2, MISSING, 1]).read_bytes()
-        faults = {
-            "magic": intaglio.NotColumn, "header": intaglio.Truncated, "version": intaglio.OtherVersion, "kind": intaglio.NoKind,
-            "too many": intaglio.TooMany, "width": intaglio.BadWidth, "source": intaglio.BadShard, "reserved": intaglio.Reserved,
-            "truncated": intaglio.Truncated, "too long": intaglio.TrailingBytes, "damaged": intaglio.Damaged,
-        }
         changed = [data[:cut] for cut in range(len(data))]
         changed.append(data + b"\0")
         changed += [data[:i] + bytes([data[i] ^ bit]) + data[i + 1:] for i in range(len(data)) for bit in (1, 128)]
         for bad in changed:
             self.path.write_bytes(bad)
-            fault = faults[formats.column_faults(bad)[0].split(":")[0]]
+            fault = getattr(intaglio, formats.column_faults(bad)[0].split(":")[0])
             self.refused(fault, f"^{self.path}: ", Column, self.path, words, filename=str(self.path))
         self.path.write_bytes(formats.sealed(data[:-1] + b"\x03"))
         self.refused(intaglio.NoSymbol, f"^{self.path}: code 3 at position 3 is no symbol$", Column, self.path, words)
