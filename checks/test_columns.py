@@ -18,6 +18,7 @@ from formats import (
 from hypothesis import given, settings
 from hypothesis import strategies as st
 from programs import TOP, run
+from test_tables import LISTS
 from tool import DONE, ONE, TRUSTED_FOLDER, WHOLE, left, made, other_dictionary, read, said, wrote
 
 
@@ -84,7 +85,7 @@ def check_column(tool, chance, table, whole, lines):
     counted = [(it, b"%d\t%s\n" % (counts[it], it)) for it in strings if counts[it]]
     by_count, missing = sorted(counted, key=lambda it: -counts[it[0]]), b"%d\n" % counts[None] * bool(counts[None])
     assert tool("count", "--by-symbol", table, "column") == wrote(b"".join(it for _, it in counted) + missing)
-    texts = [it for it in strings if it.isascii() and b"\0" not in it]
+    texts = [it for it in strings if it.isascii() and b"\0" not in it and len(it) < 100_000]
     some = chance.choices(texts, k=min(3, len(texts))) + [b"none of them"]
     for options in ((),) if os.path.isdir(table) else ((), ("--trusted",)):
         assert tool("count", *options, table, "column") == wrote(b"".join(it for _, it in by_count) + missing)
@@ -132,6 +133,15 @@ def check_all(tool, chance, parts, kind, counts):
             test_shards.check_parts(tool, parts[:many], kind, count)
 
 
+@pytest.mark.parametrize("lines", [
+    *LISTS.values(), [b"a" * length for length in (65_534, 65_535, 1, 65_536, 131_071, 0, 65_535)], [b"a", b"b" * 500_000, b"c"],
+    [it.encode() for it in ("é" * 32_767, "é" * 40_000, "é" * 3, "a" + "é" * 70_000)],
+], ids=[*LISTS, "lines that end where a block does", "a line of many blocks", "characters over blocks"])
+def test_lists(tool, lines):
+    for kind in (BYTES, TEXT) if all(map(is_text, lines)) else (BYTES,):
+        check_all(tool, random.Random(0), [lines, lines[::-2]], kind, [2])
+
+
 @pytest.mark.parametrize("kind, counts", [(BYTES, [1, 2]), (TEXT, [3, 7]), (BYTES, [16])])
 @pytest.mark.parametrize("size", [0, 1, 30, 300, 3_000, 20_000])
 def test_sizes(tool, size, kind, counts):
@@ -166,7 +176,8 @@ OTHERS = {
 
 
 def test_other_dictionaries(tool):
-    """A column is one of no other dictionary: the same strings in the same order are another one if they are in other files."""
+    """A column is one of no other dictionary: the same strings in the same order are another one if they are in other files. The
+    map of a shard is one of no folder."""
     made()
     put(".", OTHERS | {"column": dictionary_of(FEW).column([*FEW, b"a", None])})
     put("texts", WHOLE._replace(kind=TEXT).files())
@@ -174,24 +185,14 @@ def test_other_dictionaries(tool):
         put(name, dictionary_of(WHOLE.strings, count).files())
     assert tool("check", "whole", "whole.column") == DONE
     tables = "0", "fewer", "texts", "together", "alone", "alone/0.dict"
-    for table, name in (*((it, "column") for it in OTHERS), *((it, "whole.column") for it in tables)):
+    pairs = ((OTHERS, "column"), (tables, "whole.column"), (["whole"], f"maps/{ONE.map_name(1)}"))
+    for table, name in ((table, name) for every, name in pairs for table in every):
         told, is_folder = other_dictionary(name, table), os.path.isdir(table)
         for words, status in commands(table, name):
             assert tool(*words) == said(status, told)
         for words, status in commands("--trusted", table, name)[1:5]:
             assert tool(*words) == (said(2, f"{table}: {TRUSTED_FOLDER}") if is_folder else said(status, told))
         assert tool.refuses(1, told, "decode", table, name, "-o", "out")
-
-
-def test_maps_are_columns(tool):
-    """A map of a plain dictionary is a column of the merged one, and that of a shard is one of no folder."""
-    made()
-    part = dictionary_of(FEW)
-    put(".", {"part": freeze(FEW)})
-    assert tool("merge", "part", "--shards", "3", "-o", "shared", "--maps", "others") == DONE
-    assert tool("decode", "shared", f"others/{part.map_name()}") == wrote(ended(FEW))
-    for words, status in commands("whole", f"maps/{ONE.map_name(1)}"):
-        assert tool(*words)[:2] == (status, b"")
 
 
 LONG = [b"x" * count for count in (200, 201, 65_536, 200_000)] + [b"\xc3\xa9" * 100, b"\xc3\xa9" * 101]

@@ -8,6 +8,7 @@ import random
 import re
 import shutil
 import subprocess
+import tempfile
 from pathlib import Path
 from typing import Any
 
@@ -37,7 +38,8 @@ def refused(tool, status, message, words):
 def check_freeze(tool, part, lines, kind, count):
     """Freezes lines to a file, or to a folder of so many shards. Returns the dictionary."""
     wanted, shards = dictionary_of(dict.fromkeys(lines), count or 1, kind), ["--shards", str(count)] if count else []
-    put(".", {f"{part}.lines": ended(lines)})
+    # (the last line doesn't end, unless it is empty)
+    put(".", {f"{part}.lines": b"\n".join(lines) + b"\n" * (lines[-1:] == [b""])})
     words = ["freeze", "--kind", KINDS[kind], *shards, "-o", part, "--column", f"{part}.column"]
     assert tool(*words, f"{part}.lines") == DONE
     assert files_in(part) == wanted.files() and read(f"{part}.column") == wanted.column(lines)
@@ -154,9 +156,6 @@ def test_each_byte_of_a_header(tool):
         put("whole", {"1.dict": SHARD[:at] + bytes([SHARD[at] ^ change]) + SHARD[at + 1 :]})
         status, written, told = tool("check", "whole")
         assert (status, written, told[0].startswith(f"{NAME}: whole/1.dict: ")) == (1, b"", True), (at, told)
-    # That of the first one isn't the number that the others have.
-    put("whole", WHOLE.files() | {"0.dict": placed(read("whole/0.dict"), OTHER_SET, 4, 0)})
-    assert not refused(tool, 1, OF_ANOTHER_SET, "check whole")
 
 
 def test_a_damaged_set(tool):
@@ -182,27 +181,16 @@ def damaged(data):
 RENUMBER, MAP, MAP_NAME = "renumber --maps maps 0.column -o out", map_of(ONE, WHOLE, 1), f"maps/{ONE.map_name(1)}"
 # Maps to as many strings as a dictionary can have.
 LARGE = {it: changed(data, id=Id(BYTES, 2**31, WHOLE.set)) for it, data in maps_of([ONE], WHOLE).items()}
-# What becomes of the map of shard 1 of the first part, or of several files, and what is said, which is a pattern: {} is the name
-# of a map, up to its number.
+# What becomes of the map of shard 1 of the first part, and what is then said.
 CHANGED_MAPS = [
-    (None, "{}1.map: no such file; the dictionary of 0.column wasn't merged"), (b"x" * 200, "{}1.map: not a column.*"),
-    (MAP[:-1], "{}1.map: the codes are cut short"), (damaged(MAP), "{}1.map: damaged: it has another checksum"),
-    *((it, "{}1.map: leads from another dictionary than that in its name")
+    (None, f"{MAP_NAME}: no such file; the dictionary of 0.column wasn't merged"), (b"x" * 200, f"{MAP_NAME}: not a column.*"),
+    (MAP[:-1], f"{MAP_NAME}: the codes are cut short"), (damaged(MAP), f"{MAP_NAME}: damaged: it has another checksum"),
+    *((it, f"{MAP_NAME}: leads from another dictionary than that in its name")
       for it in (map_of(TWO, WHOLE, 1), map_of(ONE, WHOLE, 2), ONE.column(ONE.strings))),
-    *((map_of(ONE, it, 1), "{}1.map: a map of another merge than {}0.map") for it in (OTHER, dictionary_of(WHOLE.strings, 3))),
+    *((map_of(ONE, it, 1), f"{MAP_NAME}: a map of another merge than maps/{ONE.map_name()}")
+      for it in (OTHER, dictionary_of(WHOLE.strings, 3))),
     (changed(MAP, codes=read_column(MAP).codes[:-1]), "0.column: the maps are those of another number of strings"),
-    ({"0.column": damaged(ONE.column(ROWS))}, "0.column: damaged: it has another checksum"),
-    ({f"maps/{name}": it for name, it in LARGE.items()}, "0.column: too many strings"),
 ]
-
-
-@pytest.mark.parametrize("data, message", CHANGED_MAPS, ids=itertools.count())
-def test_changed_maps(tool, data, message):
-    made()
-    put(".", data if isinstance(data, dict) else {MAP_NAME: data}) if data else os.remove(MAP_NAME)
-    assert not refused(tool, 1, message.replace("{}", MAP_NAME.removesuffix("1.map")), RENUMBER)
-    made()
-    assert tool(*RENUMBER.split()) == DONE and read("out") == WHOLE.column(ROWS)
 
 
 def test_maps_of_another_merge(tool):
@@ -214,8 +202,12 @@ def test_maps_of_another_merge(tool):
     assert tool("decode", "whole", "out") == said(1, other_dictionary("out", "whole"))
 
 
-# Commands, the status, and what is said. Nothing is written.
-REFUSED = [
+# Commands, the status, what is said, which is a pattern, and files that are others before, or aren't there. Nothing is written.
+REFUSED: list[tuple] = [
+    *((RENUMBER, 1, message, {MAP_NAME: data}) for data, message in CHANGED_MAPS),
+    (RENUMBER, 1, "0.column: damaged: it has another checksum", {"0.column": damaged(ONE.column(ROWS))}),
+    (RENUMBER, 1, "0.column: too many strings", {f"maps/{name}": it for name, it in LARGE.items()}),
+    ("check whole", 1, OF_ANOTHER_SET, {"whole/0.dict": placed(WHOLE.files()["0.dict"], OTHER_SET, 4, 0)}),
     *((words, 1, "whole/2.dict: shard 2 of 3; name its folder") for words in (
         "decode whole/2.dict whole.column", "rows whole/2.dict whole.column 0", "rows --trusted whole/2.dict whole.column 0",
         "encode whole/2.dict 2.lines -o out",
@@ -247,12 +239,14 @@ REFUSED = [
 ]
 
 
-@pytest.mark.parametrize("words, status, message", REFUSED)
-def test_refusals(tool, words, status, message):
+@pytest.mark.parametrize("words, status, message, others", [(*it, {})[:4] for it in REFUSED], ids=itertools.count())
+def test_refusals(tool, words, status, message, others):
     made()
     put("five", dictionary_of(ONE.strings, 5).files())
     put(".", {"plain": freeze(ONE.strings), "0/lines": b"a\n", "lines": b"w1\n", "2.lines": ended(WHOLE.shards[2])})
     os.symlink("0", "link")
+    for name, data in others.items():
+        put(".", {name: data}) if data else os.remove(name)
     assert not refused(tool, status, message, words) and not os.path.exists("new")
 
 
@@ -260,12 +254,9 @@ class History:
     """Random steps, some killed, on folders a, b, c of parts and g, v, w of merges. Whatever opens gives a column's lines."""
 
     def __init__(self, tool, seed):
-        self.tool, self.chance, self.lines = tool, random.Random(seed), {}
+        self.tool, self.chance, self.lines, self.decoded = tool, random.Random(seed), {}, 0
         self.counts = self.chance.choice(([1], [2], [3], [2, 3], [1, 4], [5]))
         self.words = [b"w%d" % it for it in range(self.chance.choice((1, 3, 12)))]
-        self.decoded = 0
-        os.mkdir("maps")
-        os.mkdir("other")
 
     def run(self, *words):
         """Runs a command, of which one of ten is killed, or fails to write."""
@@ -298,11 +289,10 @@ class History:
     def merge(self):
         out = self.chance.choice("gvw")
         parts, maps = self.chance.choices(sorted({*"abcgvw"} - {out}), k=self.chance.randrange(1, 4)), ["--maps", self.maps(0.85)]
-        count, how = int(self.count()), self.chance.random()
-        shards = [self.chance.randrange(count)] if how < 0.5 else range(count)
-        of_whole = [["--shards", str(count)]] if how < 0.2 else [[]]
-        for words in of_whole if how < 0.4 else (["--shard", str(it)] for it in shards):
-            self.run("merge", *words, *parts, "-o", out, *maps)
+        count = self.count()
+        shards = [f"--shard {it}" for it in range(int(count))]
+        for words in self.chance.choices(([f"--shards {count}"], [""], shards[:1], shards[-1:], shards), (4, 4, 1, 1, 10))[0]:
+            self.run("merge", *words.split(), *parts, "-o", out, *maps)
 
     def maps(self, share):
         return "maps" if self.chance.random() < share else "other"
@@ -337,10 +327,9 @@ class History:
         if status == 0:
             assert written == ended(self.lines[path]), (folder, path)
             self.decoded += 1
-        try:
+        is_there = False
+        with contextlib.suppress(Damaged, OSError):
             is_there = bool(read_dictionary(folder))
-        except (Damaged, OSError):
-            is_there = False
         assert is_there == (self.tool("check", folder)[0] == 0), folder
 
     def go(self):
@@ -354,7 +343,6 @@ class History:
 def test_histories(tool, folder, seed, request):
     decoded = 0
     for turn in range(2 + request.config.getoption("rounds") // 5):
-        os.mkdir(folder / str(turn))
-        os.chdir(folder / str(turn))
+        os.chdir(tempfile.mkdtemp(dir=folder))
         decoded += History(tool, 1000 * seed + turn).go()
     assert decoded

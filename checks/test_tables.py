@@ -2,22 +2,20 @@
 
 import itertools
 import os
-import random
 import re
 import resource
 import subprocess
-import sys
 from pathlib import Path
 
 import hypothesis
 import pytest
 from formats import (
-    BYTES, KINDS, MISSING, TEXT, Dictionary, Frozen, dictionary_of, encoded, ended, freeze, is_text, lines_of, map_of, packed,
-    put, read_dictionary, sip_hash,
+    BYTES, KINDS, MISSING, TEXT, Dictionary, Frozen, dictionary_of, encoded, ended, freeze, lines_of, map_of, packed, put,
+    sip_hash,
 )
 from hypothesis import strategies as st
-from programs import TOP, run
-from tool import DONE, NAME, WORDS, left, read, said, wrote
+from programs import TOP, unread
+from tool import DONE, NAME, UNREAD, WORDS, read, said, wrote
 
 LISTS: dict[str, list[bytes]] = {
     "no string": [], "an empty string": [b""], "one string": [b"a"], "two strings, of which one begins the other": [b"ab", b"a"],
@@ -26,24 +24,12 @@ LISTS: dict[str, list[bytes]] = {
     "texts": [it.encode() for it in ("é", "漢字", "😀", "\u2028", "a b")],
     "twenty words": [b"word%d" % (number * number) for number in range(20)],
 }
-LARGE = {
-    "a hundred thousand words": [b"w%d" % number for number in range(100_000)],
-    "strings of 1 MB": [b"x" * 1_000_000, b"x" * 999_999 + b"y", b""],
-}
-EACH = pytest.mark.parametrize("strings", [pytest.param(it, id=name) for name, it in (LISTS | LARGE).items()])
 # Strings that all fall into the first of their groups under the first eight pairs of keys: a search found them in a minute.
 CHOSEN = (
     b"gmwreda ubzttfa coknaha xvnccja ihhdwoa nbdjxwa irfvzwa cplerxa unktlya hhgofcb llwjhfb vypazkb "
     b"cowdblb vayiunb lmubmob mcbvadc vqevxdc qfrowec vfbfpgc qiwxxhc hblmjjc crszojc eeviemc htjjunc"
 ).split()
 LINES, TABLE = ended(WORDS), freeze(WORDS)
-
-
-def table_of(strings, seed):
-    """A file of these strings, under other keys for each seed."""
-    kind = TEXT if seed % 2 and all(it.isascii() for it in strings) else BYTES
-    keys = random.Random(seed)
-    return freeze(strings, kind, keys.randrange(2**64), keys.randrange(2**64))
 
 
 def test_samples_of_the_page():
@@ -54,16 +40,6 @@ def test_samples_of_the_page():
     assert [freeze([b"rose"], TEXT), column] == [*map(bytes.fromhex, samples)] and sip_hash(0, 0, b"rose") == 0xDBCBC1FE67FCD9A6
 
 
-def test_the_hash_is_that_of_python():
-    """Python's own hash of bytes is SipHash-1-3 too, where its seed is 0."""
-    words = [bytes(range(length)) for length in range(1, 40)]
-    asked = f"import sys; print(sys.hash_info.algorithm, *(hash(it) for it in {words!r}))"
-    algorithm, *hashes = run([sys.executable, "-c", asked], PYTHONHASHSEED="0")[1].decode().split()
-    if algorithm != "siphash13":
-        pytest.skip(f"the hash of this Python is {algorithm}")
-    assert [sip_hash(0, 0, it) for it in words] == [int(it) % 2**64 for it in hashes]
-
-
 def check_commands(tool, name, whole, shard=None):
     """What the commands say of a dictionary, in a file or in a folder of shards, or of one shard of it."""
     strings = whole.strings if shard is None else whole.shards[shard]
@@ -71,8 +47,11 @@ def check_commands(tool, name, whole, shard=None):
     lines, tenths = ended(strings), 10 * size // max(1, len(strings))
     told = f"kind {KINDS[whole.kind]}\nstrings {len(strings)}\nbytes {size}\nbytes a string {tenths // 10}.{tenths % 10}\n"
     told += f"longest {max(map(len, strings), default=0)}\nidentity {whole.name}\nshards {len(whole.shards)}\n"
-    assert tool("stat", name) == wrote((told + ("" if shard is None else f"shard {shard}\n")).encode())
-    assert tool("check", name) == DONE and tool("list", name) == wrote(lines)
+    told += "" if shard is None else f"shard {shard}\n"
+    for called, given in [(name, b"")] if os.path.isdir(name) else [(name, b""), ("-", read(name))]:
+        ended_as = (tool(command, called, given=given) for command in ("stat", "check", "list"))
+        assert [*ended_as] == [wrote(told.encode()), DONE, wrote(lines)]
+    assert unread([tool.path, "stat", name]) == UNREAD
     some = [*range(0, len(strings), max(1, len(strings) // 1000)), len(strings) - 1, 0] if strings else []
     options = ((),) if os.path.isdir(name) else ((), ("--trusted",))
     for words, given in itertools.product(options, (lines, lines[:-1] + b"x\n\n" + lines + b"absent")):
@@ -83,29 +62,6 @@ def check_commands(tool, name, whole, shard=None):
         assert not some or tool("get", *words, name, *map(str, some)) == wrote(ended(strings[it] for it in some))
         absent = tool("get", *words, name, *map(str, [*some, len(strings)]))
         assert absent == said(1, f"{name}: no string has the symbol {len(strings)}")
-
-
-@EACH
-def test_commands(tool, strings):
-    put(".", {"whole": table_of(strings, len(strings))})
-    check_commands(tool, "whole", read_dictionary("whole"))
-
-
-@EACH
-@pytest.mark.parametrize("kind", KINDS)
-def test_freezing(tool, strings, kind):
-    lines, half, freezes = ended(strings), len(strings) // 2, ["freeze", "--kind", kind, "-o", "frozen"]
-    parts = {"part": strings[:half], "rest": strings[half:] + strings[:1]}
-    put(".", {name: ended(some)[: -1 if some and some[-1] else None] for name, some in parts.items()})
-    are_texts = [is_text(it) for it in strings]
-    if kind == "text" and not all(are_texts):
-        told = said(1, f"standard input: line {1 + are_texts.index(False)} is not UTF-8")
-        assert tool(*freezes, given=lines) == told and not left()
-        return
-    for files, given in (((), lines), ((), lines + lines), (parts, b"")):
-        assert tool(*freezes, *files, given=given) == DONE
-        assert read("frozen") == freeze(strings, KINDS.index(kind)) and not left()
-    assert tool("check", "frozen") == DONE
 
 
 KEYS = st.integers(0, 2**64 - 1)
@@ -133,21 +89,6 @@ def test_chosen_lines(tool):
     for words in (["--random-keys"], ["--keys", "8,0"], []):
         assert tool("freeze", "-o", "out", *words, given=ended(CHOSEN)) == DONE and [*Frozen(read("out"))] == CHOSEN
     assert read("out") == freeze(CHOSEN)
-
-
-@pytest.mark.parametrize("end", [b"", b"\n"])
-@pytest.mark.parametrize("lines", [
-    [b"a" * length for length in (65_534, 65_535, 1, 65_536, 131_071, 0, 65_535)], [b"a", b"b" * 500_000, b"c"],
-    [b"%d" % (number % 20_000) for number in range(60_000)],
-    [it.encode() for it in ("é" * 32_767, "é" * 40_000, "é" * 3, "a" + "é" * 70_000)],
-], ids=["lines that end where a block does", "a line of many blocks", "short lines over many blocks", "characters over blocks"])
-def test_blocks(tool, lines, end):
-    """Lines that reach over the end of a block are whole."""
-    given, distinct = b"\n".join(lines) + end, [*dict.fromkeys(lines)]
-    assert tool("freeze", "-o", "made", "--kind", "text", "--column", "column", given=given) == DONE
-    whole = dictionary_of(distinct, 1, TEXT)
-    assert {"0.dict": read("made")} == whole.files() and read("column") == whole.column(lines)
-    assert tool("freeze", "-o", "-", given=given) == wrote(freeze(distinct))
 
 
 def test_lines_that_repeat_take_no_memory(tool):
@@ -207,6 +148,7 @@ def test_progress(tool):
     assert told == said(0, *tenths, *last) == tool(*freezes, line='exec "$@" < lines')
     assert f"{NAME}: 50 % of {2 * len(given)} bytes read" in tool(*freezes, "lines", "lines")[2]
     assert tool(*freezes, given=given) == said(0, *last) and read("made") == freeze(lines_of(given))
+    check_commands(tool, "made", dictionary_of(lines_of(given)))
 
 
 @pytest.mark.parametrize("called, shown", [
