@@ -1,9 +1,5 @@
-"""Replaces a file as the `freeze` of the Python module does, by the module's function `replace`, without the library.
-
-    python3 checks/frozen_replace.py PATH [--noisy FILE]      by standard input, or by FILE
-
---noisy writes to the standard streams meanwhile, as the rest of a program may while a file is written.
-"""
+"""Replaces a file as the `freeze` of the Python module does, by the module's function `replace`, without the library: PATH by
+standard input. Or PATH --noisy FILE, by FILE: then it writes to the standard streams meanwhile, as the rest of a program may."""
 
 import contextlib
 import os
@@ -31,9 +27,7 @@ def main():
     if words:
         os.fsync = noisy_sync
     try:
-        if not words and sys.stdin is None:
-            raise OSError(0, "closed", "standard input")
-        with open(words[1], "rb") if words else sys.stdin.buffer as source:
+        with open(words[1] if words else "/dev/stdin", "rb") as source:
             replace(os.fsencode(path), source.read())
     except OSError as e:
         sys.exit(f"{os.fsdecode(e.filename2 or e.filename)}: {e.strerror}")

@@ -5,13 +5,13 @@ import errno
 import itertools
 import os
 import re
-import resource
 import signal
 import stat
 import subprocess
 import sys
 from collections import namedtuple
 from collections.abc import Callable
+from concurrent.futures import ThreadPoolExecutor
 from pathlib import Path
 from typing import Any
 
@@ -24,14 +24,17 @@ STRINGS = [b"b", b"a"]
 # What the program names if the new file can't be made or written: that file, by a name that was drawn.
 NEW = r"\.intaglio\.[0-9a-f]{16}\.new"
 HOW: dict[str, Any] = {"capture_output": True, "timeout": 20}
+# Under this a file that grows longer than 10 bytes raises a signal, and under the second it is a failed write.
+LIMITED = ("prlimit", "--fsize=10")
+FAILING = (*LIMITED, "env", "--ignore-signal=XFSZ")
 
 
 class Writer(namedtuple("Writer", "command given noise start new")):
     """What freezes to a path: a command, what it reads, an option for noise, how messages begin, and how they call a new file."""
 
-    def __call__(self, path, before=None, **settings):
-        """The status of a process that freezes the strings to a path, and what it said."""
-        ran = subprocess.run([*self.command, path], input=self.given(STRINGS), preexec_fn=before, env=settings, **HOW)
+    def __call__(self, path, under=(), strings=STRINGS, umask=-1, **settings):
+        """The status of a process that freezes strings to a path, and what it said."""
+        ran = subprocess.run([*under, *self.command, path], input=self.given(strings), umask=umask, env=settings, **HOW)
         return ran.returncode, (ran.stdout + ran.stderr).decode(errors="surrogateescape").strip()
 
     def freezes(self, path, **how):
@@ -108,22 +111,16 @@ def test_modes(writer, mode):
     for mask in (0o022, 0o077):
         if mode:
             as_file("dict", mode)
-        assert writer.freezes("dict", before=lambda: os.umask(mask))
+        assert writer.freezes("dict", umask=mask)
         assert mode_of("dict") == (mode or 0o666 & ~mask)
         os.remove("dict")
-
-
-def limit_files(action):
-    """A file that grows longer than 10 bytes raises a signal, or if that is ignored is a failed write."""
-    signal.signal(signal.SIGXFSZ, action)
-    resource.setrlimit(resource.RLIMIT_FSIZE, (10, 10))
 
 
 @PROGRAM
 def test_a_process_that_is_killed(writer):
     """It is killed as it writes, and so leaves its file, which only its owner reads. (Python ignores the signal.)"""
     as_file("dict", 0o604)
-    killed, _ = writer("dict", before=lambda: limit_files(signal.SIG_DFL))
+    killed, _ = writer("dict", LIMITED)
     left = [it for it in os.listdir() if it != "dict"]
     assert (killed, read("dict"), [*map(mode_of, left)]) == (-signal.SIGXFSZ, WAS, [0o600])
     assert writer.freezes("dict") and all(map(os.path.exists, left))
@@ -183,11 +180,11 @@ def test_errors(writer):
     path = os.path.abspath("dict")
     as_file(path)
     before = seen()
-    for target, limit, new, error in (
-        (os.path.abspath("absent/dict"), None, os.path.abspath("absent"), errno.ENOENT),
-        (path, lambda: limit_files(signal.SIG_IGN), os.path.dirname(path), errno.EFBIG),
+    for target, under, new, error in (
+        (os.path.abspath("absent/dict"), (), os.path.abspath("absent"), errno.ENOENT),
+        (path, FAILING, os.path.dirname(path), errno.EFBIG),
     ):
-        status, told = writer(target, before=limit)
+        status, told = writer(target, under)
         start, end = (re.escape(it) for it in writer.said(new, os.strerror(error))[1].split(f"{new}: "))
         assert status == 1 and re.fullmatch(f"{start}{re.escape(new)}/{writer.new}: {end}", told)
     status, told = writer("none/")
@@ -217,16 +214,10 @@ def test_several_processes(request, names, count):
     tables = [*map(freeze, lists)]
     for turn in range(request.config.getoption("rounds")):
         failing = turn // 2 % count if turn % 2 else None
-        pipes: dict[str, Any] = dict.fromkeys(("stdin", "stdout", "stderr"), subprocess.PIPE)
-        running: list[Any] = []
-        for number, it in enumerate(writers):
-            before = (lambda: limit_files(signal.SIG_IGN)) if number == failing else None
-            running.append(subprocess.Popen([*it.command, "dict"], preexec_fn=before, **pipes))
-        for it, writer, strings in zip(running, writers, lists):
-            it.stdin.write(writer.given(strings))
-        for it in running:
-            it.stdin.close()
-        assert [it.wait(20) for it in running] == [int(it == failing) for it in range(count)], turn
+        under = [FAILING if it == failing else () for it in range(count)]
+        with ThreadPoolExecutor(count) as pool:
+            ended_as = pool.map(lambda writer, *how: writer("dict", *how)[0], writers, under, lists)
+        assert [*ended_as] == [int(it == failing) for it in range(count)], turn
         is_right = read("dict") in [it for number, it in enumerate(tables) if number != failing] and os.listdir() == ["dict"]
         assert is_right, turn
         if turn % 3 == 0:
