@@ -14,7 +14,7 @@ from typing import Any
 
 import pytest
 from formats import (
-    BYTES, COLUMN_HEADER, KINDS, TEXT, Damaged, Id, column, dictionary_of, ended, files_in, freeze, map_of, maps_of, merge_of,
+    BYTES, KINDS, TEXT, Damaged, Id, column, dictionary_of, ended, files_in, freeze, map_of, maps_of, merge_of,
     placed, put, read_column, read_dictionary,
 )
 from test_tables import check_commands
@@ -168,28 +168,19 @@ def test_a_damaged_set(tool):
     assert files_in("maps").keys() > maps_of([ONE], WHOLE).keys()
 
 
-def changed(data, **fields):
-    """A column or a map with other fields."""
-    return column(*read_column(data)._replace(**fields))
-
-
-def damaged(data):
-    """One with another first code, and the old checksum."""
-    return data[: COLUMN_HEADER.size] + bytes([data[COLUMN_HEADER.size] + 1]) + data[COLUMN_HEADER.size + 1 :]
-
-
 RENUMBER, MAP, MAP_NAME = "renumber --maps maps 0.column -o out", map_of(ONE, WHOLE, 1), f"maps/{ONE.map_name(1)}"
 # Maps to as many strings as a dictionary can have.
-LARGE = {it: changed(data, id=Id(BYTES, 2**31, WHOLE.set)) for it, data in maps_of([ONE], WHOLE).items()}
+LARGE = {it: read_column(data)._replace(id=Id(BYTES, 2**31, WHOLE.set)) for it, data in maps_of([ONE], WHOLE).items()}
 # What becomes of the map of shard 1 of the first part, and what is then said.
 CHANGED_MAPS = [
     (None, f"{MAP_NAME}: no such file; the dictionary of 0.column wasn't merged"), (b"x" * 200, f"{MAP_NAME}: not a column.*"),
-    (MAP[:-1], f"{MAP_NAME}: the codes are cut short"), (damaged(MAP), f"{MAP_NAME}: damaged: it has another checksum"),
+    (MAP[:-1], f"{MAP_NAME}: the codes are cut short"), (MAP[:-1] + b"\0", f"{MAP_NAME}: damaged: it has another checksum"),
     *((it, f"{MAP_NAME}: leads from another dictionary than that in its name")
       for it in (map_of(TWO, WHOLE, 1), map_of(ONE, WHOLE, 2), ONE.column(ONE.strings))),
     *((map_of(ONE, it, 1), f"{MAP_NAME}: a map of another merge than maps/{ONE.map_name()}")
       for it in (OTHER, dictionary_of(WHOLE.strings, 3))),
-    (changed(MAP, codes=read_column(MAP).codes[:-1]), "0.column: the maps are those of another number of strings"),
+    (column(*read_column(MAP)._replace(codes=read_column(MAP).codes[:-1])),
+     "0.column: the maps are those of another number of strings"),
 ]
 
 
@@ -205,8 +196,8 @@ def test_maps_of_another_merge(tool):
 # Commands, the status, what is said, which is a pattern, and files that are others before, or aren't there. Nothing is written.
 REFUSED: list[tuple] = [
     *((RENUMBER, 1, message, {MAP_NAME: data}) for data, message in CHANGED_MAPS),
-    (RENUMBER, 1, "0.column: damaged: it has another checksum", {"0.column": damaged(ONE.column(ROWS))}),
-    (RENUMBER, 1, "0.column: too many strings", {f"maps/{name}": it for name, it in LARGE.items()}),
+    (RENUMBER, 1, "0.column: damaged: it has another checksum", {"0.column": ONE.column(ROWS)[:-1] + b"\0"}),
+    (RENUMBER, 1, "0.column: too many strings", {f"maps/{name}": column(*it) for name, it in LARGE.items()}),
     ("check whole", 1, OF_ANOTHER_SET, {"whole/0.dict": placed(WHOLE.files()["0.dict"], OTHER_SET, 4, 0)}),
     *((words, 1, "whole/2.dict: shard 2 of 3; name its folder") for words in (
         "decode whole/2.dict whole.column", "rows whole/2.dict whole.column 0", "rows --trusted whole/2.dict whole.column 0",
