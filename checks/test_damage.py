@@ -48,16 +48,13 @@ COLUMNS = [(it.files()["0.dict"], it.column([*it.strings[:: max(1, len(it.string
 COLUMNS.append((COLUMNS[1][0], column(DICTIONARIES[1].id, [2, 0], Source(1, BYTES, DICTIONARIES[2].set))))
 
 
-def fault_of(message):
-    """The fault that a message names."""
-    message = re.sub("^a (frozen table|column) of (?=an)", "", message)
-    [number] = re.findall(r"^(?:string|row) (\d+) ", message) or ["#"]
-    return FAULTS.get(message.replace(number, "#", 1), message).replace("#", number)
-
-
 def is_right(message, faults, wanted=None):
     """Whether a message names one of the faults, or is as wanted if there are none."""
-    return bool(message) and fault_of(message) in faults if faults else message == wanted
+    if not (message and faults):
+        return not faults and message == wanted
+    told = re.sub("^a (frozen table|column) of (?=an)", "", message)
+    [number] = re.findall(r"^(?:string|row) (\d+) ", told) or ["#"]
+    return FAULTS.get(told.replace(number, "#", 1), told).replace("#", number) in faults
 
 
 @st.composite
