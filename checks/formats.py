@@ -101,6 +101,7 @@ class Frozen(list):
             raise Damaged(*faults)
         self.header = header = header_of(data)
         self.kind, self.key0, self.key1, count = header.kind, header.key0, header.key1, header.strings
+        self.id = Id(header.kind, count, header.own)
         self.sections = at = Sections(count)
         found = struct.unpack_from(f"<{at.places}I{count}I{at.groups}H", data, at.symbols)
         self.symbols, self.ends, self.pilots = found[: at.places], found[at.places : -at.groups], found[-at.groups :]
@@ -208,12 +209,6 @@ def assembled(strings, pilots, header):
     header = header._replace(strings=len(strings), length=ends[-1] if ends else 0, own=own, set=header.set or own)
     sections = struct.pack(f"<{at.places}I{len(ends)}I{at.groups}H", *symbols, *ends, *pilots)
     return b"".join([TABLE_HEADER.pack(*header), sections, tags, *strings])
-
-
-def id_of(table):
-    """That of the dictionary in these bytes."""
-    frozen = Frozen(table)
-    return id_of_strings([*frozen], frozen.kind)
 
 
 def id_of_strings(strings, kind):

@@ -9,7 +9,7 @@ import tempfile
 import pytest
 from formats import (
     BYTES, COLUMN_HEADER, MISSING, TEXT, Damaged, Frozen, Source, assembled, begins_as_column, column, column_faults, decoded,
-    dictionary_of, ended, freeze, id_of, is_text, packed, put, read_column, sealed, table_faults,
+    dictionary_of, ended, freeze, is_text, packed, put, read_column, sealed, table_faults,
 )
 from hypothesis import given, seed, settings
 from hypothesis import strategies as st
@@ -122,7 +122,7 @@ def check_columns(tool, table, files):
     messages = reported(tool, names, ["table"])
     for name, data in named.items():
         faults, start = column_faults(data), f"{NAME}: {name}: "
-        is_other = not faults and (read_column(data).id, read_column(data).shards) != (id_of(table), 1)
+        is_other = not faults and (read_column(data).id, read_column(data).shards) != (Frozen(table).id, 1)
         wanted = other_dictionary(name, "table").removeprefix(f"{name}: ") if is_other else None
         about = messages.get(name), faults[:3], data.hex()
         assert name not in names or is_right(messages.get(name), faults, wanted), about

@@ -125,10 +125,8 @@ DAMAGED: list[tuple[Any, ...]] = [
     (WHOLE.files()["0.dict"], "whole/1.dict: shard 0 of 3, not shard 1"),
     (SHARD[:-1], f"whole/1.dict: {CUT}"), (SHARD[:70], f"whole/1.dict: {CUT}"),
     (SHARD[:-1] + b"x", r"whole/1.dict: (the identity isn't that of the strings|string \d+ isn't found at its symbol)"),
-    (
-        placed(freeze(WHOLE.shards[2]), WHOLE.set, 3, 1),
-        "whole/1.dict: string 0 belongs to another shard, or there is another number of shards",
-    ),
+    (placed(freeze(WHOLE.shards[2]), WHOLE.set, 3, 1),
+     "whole/1.dict: string 0 belongs to another shard, or there is another number of shards"),
 ]
 READERS = [
     "decode whole whole.column -o out", "encode whole -o out", "find whole", "get whole 0", "list whole", "check whole",

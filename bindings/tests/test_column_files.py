@@ -53,7 +53,7 @@ class OfColumns(Case):
 
     def write(self, words, codes):
         """A column of these codes that another writer wrote."""
-        self.path.write_bytes(formats.column(formats.id_of(words.to_bytes()), codes))
+        self.path.write_bytes(formats.column(formats.Frozen(words.to_bytes()).id, codes))
         return self.path
 
     def compare(self, column, lines):
