@@ -1,6 +1,6 @@
 -- The check that a group of strings has no places, step by step.
 use Rattle.intaglio_frozen.proofs.Names.{common_steps, cases_eq, groups_for, scaled, group_at, place_under, IsBeforeAt, IsEarlierAt, HasNoPlace, AreMembers, AreMarked, taken_mark}
-use Rattle.std.proofs.Common.{◌≡◌, ◌≢◌, ℕ, ◌+◌, ◌<◌, ◌==◌, inl, inr, Bool, List, length, get_or, set, take, sym, ap, ◌∙◌, arith, count_by, get_or-set_same, get_or-set_other}
+use Rattle.std.proofs.Common.{◌≡◌, ◌≢◌, ℕ, ◌+◌, ◌<◌, ◌==◌, inl, inr, Bool, List, [], ◌∷◌, ◌++◌, length, get_or, set, take, sym, ap, ◌∙◌, arith, count_by, get_or-set_same, get_or-set_other}
 
 -- whether a hash is one of a group
 abbrev pub is_in : List ℕ → ℕ → ℕ → Bool
@@ -12,6 +12,26 @@ pub counted-more : (hs sizes : List ℕ) (i at x g : ℕ) → i < length hs → 
     get_or sizes g 0 ≡ count_by (is_in hs g) (take i hs) →
     get_or (set sizes at x) g 0 ≡ count_by (is_in hs g) (take (i + 1) hs)
 counted-more hs sizes i at x g l is within more so_far = grind (arith, common_steps)
+
+-- one more string of a group, behind its others, is one of its members
+module _ (hs ms : List ℕ) (g i : ℕ) (before : (k : ℕ) → k < length ms → get_or ms k 0 < i) where
+  pub members-before : (k : ℕ) → k < length (ms ++ i ∷ []) → get_or (ms ++ i ∷ []) k 0 < i + 1
+  members-before k below = grind (arith, common_steps, before k)
+
+  pub members-more : i < length hs → group_at hs i ≡ g → AreMembers hs g ms → AreMembers hs g (ms ++ i ∷ [])
+  members-more there group old = record {
+    there = λ k below. grind (arith, common_steps, old.there k);
+    group = λ k below. grind (arith, common_steps, old.group k);
+    order = λ j k less below. grind (arith, common_steps, before j, old.order j k);
+  }
+
+-- a place that is marked stays so when one more is
+pub stays-taken : (marks : List ℕ) (at p : ℕ) → at < length marks → get_or marks p 0 ≡ taken_mark →
+    get_or (set marks at taken_mark) p 0 ≡ taken_mark
+stays-taken marks at p within e = elim (cases_eq p at) [
+  | inl same ↦ rw same (get_or-set_same marks at taken_mark 0 within)
+  | inr other ↦ get_or-set_other marks at p taken_mark 0 other ∙ e
+]
 
 module _ (hs : List ℕ) (pilots : ℕ → ℕ) (g : ℕ) where
   -- one more place of a group before is marked

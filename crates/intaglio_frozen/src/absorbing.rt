@@ -42,7 +42,6 @@ use std::alloc::{AllocError, Global};
 /// let map = absorb(alloc, &mut table, &frozen, &mut Work::new())?;
 /// assert!(rt; map.get(1).copied() == Some(a));
 /// ```
-#[tactic(auto, using(std::proofs::lemmas::Grind::common_steps, crate::proofs::Absorbed::ok_both, crate::proofs::Absorbed::issued_map_by, crate::proofs::Absorbed::none_grows))]
 pub fn absorb<'s, L: StringList, T: BaseInterner>(
     alloc: Global,
     table: &mut T,

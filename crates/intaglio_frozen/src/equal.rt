@@ -3,8 +3,7 @@ ghost use Rattle.std.specs.Prelude.{◌≤◌, ◌^◌, IfOk, MatchOption, lengt
 ghost use Rattle.intaglio_frozen.specs.Freezing.{HasNoEqual, IsFirstEqual};
 
 use crate::list::StringList;
-use intaglio::packed::bytes::SymbolTable;
-use intaglio_core::SYMBOLS;
+use crate::merging::table_for;
 use intaglio_hash::KeyedState;
 use intaglio_symbol::InternError;
 use std::alloc::Global;
@@ -18,8 +17,7 @@ pub(crate) fn equal_strings<L: StringList>(
     ensures { IfOk result (λ found. MatchOption found (HasNoEqual (L.strings list.now))
         (λ pair. IsFirstEqual (L.strings list.now) pair.0 pair.1)) }
 {
-    let keys = KeyedState::with_keys(0, 0);
-    let mut table = SymbolTable::<KeyedState>::with_limit(alloc, SYMBOLS, keys).unwrap();
+    let mut table = table_for(alloc, 0, KeyedState::with_keys(0, 0))?;
     for i in 0..list.len() {
         let symbol = table.get_or_intern(list.string(i))?;
         if (symbol.id() as usize) < i {

@@ -75,13 +75,13 @@ impl<C: Spelled, S: BuildHasher> StringList for Table<C, S> {
 
     #[inline(always)]
     fn len(&self) -> usize {
-        Table::len(self)
+        count_of(self)
     }
 
     #[inline(always)]
     fn string(&self, i: usize) -> &[u8] {
         // The number of contents is at most 2^32.
-        let _count = Table::len(self);
+        let _count = count_of(self);
         self[Symbol::new(i as u32)].spelling()
     }
 }
@@ -91,13 +91,32 @@ impl<K: intaglio_content::StringKind, S: BuildHasher> StringList for TableOver<P
 
     #[inline(always)]
     fn len(&self) -> usize {
-        TableOver::len(self)
+        store_of(self).records().len()
     }
 
     #[inline(always)]
     fn string(&self, i: usize) -> &[u8] {
-        BaseInterner::store(self).string(i)
+        store_of(self).string(i)
     }
+}
+
+// The number of contents.
+#[inline(always)]
+fn count_of<C: Spelled, S: BuildHasher>(table: &Table<C, S>) -> usize
+    ensures count { result ≡ length table.now.state.contents }
+    ensures few { result ≤ 2 ^ 32 }
+{
+    Table::len(table)
+}
+
+// The strings of a table.
+#[inline(always)]
+fn store_of<K: intaglio_content::StringKind, S: BuildHasher>(
+    table: &TableOver<Packed<K>, S>,
+) -> &Packed<K>
+    ensures { strings_of result.now ≡ table.now.state.contents }
+{
+    BaseInterner::store(table)
 }
 
 // The first string that can't be one of a table of this kind.

@@ -1,8 +1,9 @@
 //! Merges lists of strings.
-ghost use Rattle.std.specs.Prelude.{◌≡◌, ◌<◌, ◌≤◌, ◌^◌, [], length, map, IfErr, IfOk};
+ghost use Rattle.std.specs.Prelude.{◌≡◌, ◌<◌, ◌≤◌, ◌^◌, [], length, map, IfErr, IfOk, OnOk};
 ghost use Rattle.intaglio_content.specs.Key.{hash_of};
 ghost use Rattle.intaglio_interner.specs.Batch.{IfOverflow};
-ghost use Rattle.intaglio_frozen.specs.Merging.{AreMaps, union};
+ghost use Rattle.intaglio_interner.specs.Issue.{interned_all};
+ghost use Rattle.intaglio_frozen.specs.Merging.{AreMaps, IsMap, string_key, union};
 
 use crate::StringList;
 use crate::absorbing::absorb;
@@ -11,8 +12,8 @@ use intaglio_bytes::bytes::BytesKind;
 use intaglio_content::Work;
 use intaglio_core::SYMBOLS;
 use intaglio_packed::Packed;
-use intaglio_symbol::{InternError, RoomError, Symbol};
-use std::alloc::Global;
+use intaglio_symbol::{InternError, Symbol};
+use std::alloc::{AllocError, Global};
 use std::hash::BuildHasher;
 
 /// What lists of strings are merged to.
@@ -42,20 +43,20 @@ pub fn merge_tables<L: StringList, S: BuildHasher + Drop>(
         IfOk result (λ merged. hash merged.table.hasher ≡ hash builder) }
     ensures overflow { IfErr result (λ e. IfOverflow e (2 ^ 32 < length (union (map L.strings lists.now)))) }
 {
-    let mut table = table_for(alloc, lists, builder)?;
+    // A power of two, so that a bucket is found by a mask.
+    let mut table = table_for(alloc, longest(lists).next_power_of_two(), builder)?;
     let mut maps = Vec::with_capacity(alloc, lists.len())?;
     for i in 0..lists.len() {
-        let symbols = absorb(alloc, &mut table, &lists[i], &mut Work::new())?;
+        let symbols = absorb_bytes(alloc, &mut table, &lists[i])?;
         maps.push_reserved(symbols);
     }
     Ok(Merged { table, maps })
 }
 
-// An empty table with room for as many strings as the longest list has, rounded up to a power of two, so that
-// a bucket is found by a mask.
-fn table_for<L: StringList, S: BuildHasher + Drop>(
+// An empty table of this capacity.
+pub(crate) fn table_for<S: BuildHasher + Drop>(
     alloc: Global,
-    lists: &[L],
+    capacity: usize,
     builder: S,
 ) -> Result<TableOver<Packed<BytesKind>, S>, InternError>
     ensures empty { IfOk result (λ table. table.state.contents ≡ []) }
@@ -63,11 +64,29 @@ fn table_for<L: StringList, S: BuildHasher + Drop>(
     ensures hasher { IfOk result (λ table. table.hasher ≡ builder) }
     ensures overflow { IfErr result (λ e. IfOverflow e ⊥) }
 {
-    let mut table = TableOver::with_limit(alloc, SYMBOLS, builder).unwrap();
-    match table.reserve(longest(lists).next_power_of_two()) {
-        Err(RoomError::Memory(refused)) => Err(InternError::Memory(refused)),
-        _ => Ok(table),
+    match TableOver::with_capacity_and_hasher(alloc, capacity, builder) {
+        Ok(table) => Ok(table),
+        Err(_) => Err(InternError::Memory(AllocError)),
     }
+}
+
+// As `absorb`, into a table of byte slices.
+pub(crate) fn absorb_bytes<L: StringList, S: BuildHasher>(
+    alloc: Global,
+    table: &mut TableOver<Packed<BytesKind>, S>,
+    list: &L,
+) -> Result<Vec<Symbol>, InternError>
+    ensures held { let all = interned_all string_key table.old.state.contents (L.strings list.now) in
+        OnOk result (table.new.state.contents ≡ all) }
+    ensures map { let new = table.new.state.contents in
+        IfOk result (λ symbols. IsMap (L.strings list.now) new symbols.items) }
+    ensures limit { table.new.state.limit ≡ table.old.state.limit }
+    ensures hash { let hash = hash_of S.BuildHasher S.Hasher.Hasher in
+        hash table.new.hasher ≡ hash table.old.hasher }
+    ensures overflow { let all = interned_all string_key table.old.state.contents (L.strings list.now) in
+        IfErr result (λ e. IfOverflow e (table.old.state.limit < length all)) }
+{
+    absorb(alloc, table, list, &mut Work::new())
 }
 
 // The number of strings of the longest list, at most 2^32.

@@ -235,7 +235,6 @@ pub fn first_misplaced(table: &Frozen<'_>, count: u32, shard: u32) -> Option<u32
 }
 
 // The symbol at which each shard begins.
-#[tactic(auto, using(std::proofs::lemmas::Grind::common_steps, std::proofs::lemmas::Grind::take_at_read, std::proofs::lemmas::Result::err_from_is_err_and, std::proofs::lemmas::Option::slice_get_read, crate::proofs::Sharded::starts_push, crate::proofs::Sharded::joined_next, crate::proofs::Sharded::joined_front))]
 fn starts_of(alloc: Global, tables: &[Frozen<'_>]) -> Result<Vec<u32>, ShardsError>
     ensures starts { IfOk result (λ starts. starts.items ≡ starts_from 0 tables.now) }
     ensures few { OnOk result (length (joined tables.now) ≤ missing) }

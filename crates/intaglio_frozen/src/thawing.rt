@@ -1,16 +1,15 @@
 //! How a frozen table becomes one that grows.
-ghost use Rattle.std.specs.Prelude.{◌≡◌, ◌^◌, map, IfOk, IfErr};
+ghost use Rattle.std.specs.Prelude.{◌≡◌, ◌^◌, IfOk, IfErr};
 ghost use Rattle.intaglio_content.specs.Key.{hash_of};
 ghost use Rattle.intaglio_interner.specs.Batch.{IfOverflow};
 
 use crate::frozen::Frozen;
-use crate::iter::FrozenStrings;
+use crate::merging::{absorb_bytes, table_for};
 use intaglio::TableOver;
 use intaglio_bytes::bytes::BytesKind;
-use intaglio_core::SYMBOLS;
 use intaglio_packed::Packed;
 use intaglio_symbol::InternError;
-use std::alloc::{AllocError, Global};
+use std::alloc::Global;
 use std::hash::BuildHasher;
 
 impl<'a> Frozen<'a> {
@@ -42,20 +41,10 @@ impl<'a> Frozen<'a> {
             IfOk result (λ thawed. hash thawed.hasher ≡ hash hasher) }
         ensures only_memory { IfErr result (λ e. IfOverflow e ⊥) }
     {
-        let strings = all_strings(alloc, self.distinct_strings())?;
-        let mut thawed = TableOver::with_limit(alloc, SYMBOLS, hasher).unwrap();
-        let _symbols = thawed.get_or_intern_all(&strings)?;
+        // For the contract alone: the strings are distinct, and at most 2^32.
+        let _strings = self.distinct_strings();
+        let mut thawed = table_for(alloc, 0, hasher)?;
+        let _symbols = absorb_bytes(alloc, &mut thawed, self)?;
         Ok(thawed)
     }
-}
-
-// Strings in a list.
-fn all_strings<'a>(alloc: Global, strings: FrozenStrings<'a>) -> Result<Vec<&'a [u8]>, AllocError>
-    ensures { IfOk result (λ all. map (λ s. s.now) all.items ≡ strings.entry) }
-{
-    let mut all = Vec::new(alloc);
-    for string in strings {
-        all.push(string)?;
-    }
-    Ok(all)
 }

@@ -1,6 +1,6 @@
 -- The form of the next string has its spelling, and needs no more bytes than it has (`from_string`).
 use Rattle.intaglio_frozen.proofs.Names.{common_steps}
-use Rattle.std.proofs.Common.{◌≡◌, ◌∙◌, ◌++◌, [], ◌∷◌, rules, arith}
+use Rattle.std.proofs.Common.{◌≡◌, ◌++◌, [], ◌∷◌, refl, rules, arith}
 use Rattle.intaglio_frozen.proofs.HashedAhead.{take_there}
 use Rattle.intaglio_frozen.proofs.absorbing.forms_of.Goals as goal
 
@@ -17,3 +17,6 @@ loop-i-preserved g c =
       count = omega (arith, c.push_reserved.ensures.len, c.loop-i.invariant.count);
       room = search rules;
     }
+
+pub from_string-requires : goal.from_string-requires
+from_string-requires g c = λ _. ((refl, tt), c.requires c.loop-i.i c.string.result.now c.string.ensures)

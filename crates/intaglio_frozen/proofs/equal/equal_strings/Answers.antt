@@ -1,7 +1,7 @@
 -- A symbol of at least `i` is that of a new string (`added`), so the strings so far are distinct, and the
 -- table has them. A lower one is that of an equal string before (`again`), so this pair is the first.
 use Rattle.intaglio_frozen.proofs.Names.{common_steps, slice_get_within}
-use Rattle.std.proofs.Common.{◌≡◌, ◌∙◌, ◌∷◌, ◌++◌, [], length, take, ap, arith, length-take-le, take_all}
+use Rattle.std.proofs.Common.{◌≡◌, ◌∙◌, length, take, ap, arith, length-take-le, take_all}
 use Rattle.intaglio_frozen.proofs.Distinct.{added, again, none-equal}
 use Rattle.intaglio_frozen.proofs.HashedAhead.{take_there}
 use Rattle.intaglio_frozen.proofs.equal.equal_strings.Goals as goal

@@ -1,7 +1,7 @@
 -- Absorbing one more list makes the union of all so far, and the earlier maps stay maps (`union-next`,
 -- `maps-next`). If the table overflows on the way, the union of all lists would too (`union-over`).
-use Rattle.intaglio_frozen.proofs.Names.{common_steps, take_at_read, map-append, map-id, take-map, err_from_is_err_and, IfOverflow, interned_all, string_key, union, AreMaps, IsMap}
-use Rattle.std.proofs.Common.{◌≡◌, ◌∙◌, ◌+◌, ◌^◌, ◌<◌, ◌++◌, [], ◌∷◌, ap, length, map, refl, subst, sym, take, rules, arith}
+use Rattle.intaglio_frozen.proofs.Names.{common_steps, take_at_read, map-append, take-map, err_from_is_err_and, IfOverflow, interned_all, string_key, union, AreMaps, IsMap}
+use Rattle.std.proofs.Common.{◌≡◌, ◌∙◌, ◌+◌, ◌^◌, ◌<◌, ◌++◌, [], ◌∷◌, ap, length, map, subst, sym, take, rules, arith}
 use Rattle.intaglio_frozen.proofs.Absorbed.{if-overflow, maps-next, union-next, union-over}
 use Rattle.intaglio_frozen.proofs.merging.merge_tables.Goals as goal
 
@@ -14,24 +14,25 @@ loop-i-preserved g c =
     let front = map strings (take i lists) in
     let ws = strings list in
     let old = c.loop-i.table.state.contents in
-    let new = c.absorb.new.table.state.contents in
+    let new = c.absorb_bytes.new.table.state.contents in
     let symbols = c.in_ok-symbols.symbols.items in
     let next : map strings (take (i + 1) lists) ≡ front ++ ws ∷ [] = grind (arith, common_steps) in
-    let held : map (λ w. w) new ≡ interned_all string_key (map (λ w. w) old) ws =
-    c.in_ok-symbols.ensures.held in
-    let after : new ≡ union (front ++ ws ∷ []) = grind (arith, common_steps, map-id, union-next) in
-    let same : IsMap ws (map (λ w. w) new) symbols = c.in_ok-symbols.ensures.same (λ w. refl) in
+    let held : new ≡ interned_all string_key old ws = c.in_ok-symbols.ensures.held in
+    let after : new ≡ union (front ++ ws ∷ []) =
+    held ∙ ap (λ t. interned_all string_key t ws) c.loop-i.invariant.union ∙ sym (union-next front ws) in
     let is : IsMap ws (union (front ++ ws ∷ [])) symbols =
-    subst (λ t. IsMap ws t symbols) (map-id new ∙ after) same in
-    let before : AreMaps front (union front) (map (λ m. m.items) c.loop-i.maps.items) = grind (arith, common_steps) in
+    subst (λ t. IsMap ws t symbols) after c.in_ok-symbols.ensures.map in
+    let before : AreMaps front (union front) (map (λ m. m.items) c.loop-i.maps.items) =
+    subst (λ t. AreMaps front t (map (λ m. m.items) c.loop-i.maps.items)) c.loop-i.invariant.union
+    c.loop-i.invariant.maps in
     let items : c.push_reserved.new.self.items ≡ c.loop-i.maps.items ++ c.in_ok-symbols.symbols ∷ [] =
     search rules in
     let maps = maps-next front ws (map (λ m. m.items) c.loop-i.maps.items) symbols before is in
     record {
       union = after ∙ ap union (sym next);
       maps = grind (arith, common_steps);
-      limit = c.absorb.ensures.table.limit ∙ c.loop-i.invariant.limit;
-      hash = c.absorb.ensures.table.same_hash ∙ c.loop-i.invariant.hash;
+      limit = c.absorb_bytes.ensures.limit ∙ c.loop-i.invariant.limit;
+      hash = c.absorb_bytes.ensures.hash ∙ c.loop-i.invariant.hash;
       count = omega (arith, c.push_reserved.ensures.len, c.loop-i.invariant.count);
       room = search rules;
     }
@@ -47,9 +48,9 @@ returns-in_err-symbols-clause-overflow g c =
     let old = c.loop-i.table.state.contents in
     let e = c.in_err-symbols.field-0.0 in
     let next : take (i + 1) (map strings lists) ≡ front ++ ws ∷ [] = grind (arith, common_steps, take-map, take_at_read, map-append) in
-    let held : interned_all string_key (map (λ w. w) old) ws ≡ union (take (i + 1) (map strings lists)) = grind (arith, common_steps, map-id, union-next) in
-    let full : IfOverflow e
-    (c.loop-i.table.state.limit < length (interned_all string_key (map (λ w. w) old) ws)) =
+    let held : interned_all string_key old ws ≡ union (take (i + 1) (map strings lists)) =
+    ap (λ t. interned_all string_key t ws) c.loop-i.invariant.union ∙ sym (union-next front ws) ∙ ap union (sym next) in
+    let full : IfOverflow e (c.loop-i.table.state.limit < length (interned_all string_key old ws)) =
     c.in_err-symbols.ensures.overflow in
     let more =
     if-overflow e

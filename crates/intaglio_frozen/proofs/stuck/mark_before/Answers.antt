@@ -1,8 +1,9 @@
 -- The place that a turn marks is that of string i under the pilot of its group, which `is_before` says is
 -- placed before this one (`marked-more`). It wasn't marked, so no earlier string has it (`own-more`).
-use Rattle.intaglio_frozen.proofs.Names.{common_steps, group_at, IsBefore, place_under, taken_mark}
+use Rattle.intaglio_frozen.proofs.Names.{group_at, IsBefore, place_under, taken_mark}
+use Rattle.std.proofs.lemmas.List.{length-set}
 use Rattle.std.proofs.Common.{◌≡◌, ◌<◌, ◌∙◌, ℕ, length, ap, get_or, get_or-set_same, set, subst, sym, arith}
-use Rattle.intaglio_frozen.proofs.Marked.{marked-more, own-more}
+use Rattle.intaglio_frozen.proofs.Marked.{marked-more, own-more, stays-taken}
 use Rattle.intaglio_frozen.proofs.stuck.mark_before.Goals.{then-is_before+else-marks-place, else-is_before}
 use Rattle.intaglio_frozen.proofs.stuck.mark_before.Goals as goal
 
@@ -23,7 +24,7 @@ loop-i-preserved c =
           let is : at ≡ place_under hs i (ps (group_at hs i)) =
           w.place_under-place.ensures.value ∙ ap (λ f. place_under hs i (ps f)) other in
           record {
-            len = grind (arith, common_steps);
+            len = rw w.marks-is (length-set marks at taken_mark ∙ old.len);
             marked = rw w.marks-is
                 (marked-more hs ps g marks 0 at i within
                 (record {
@@ -32,13 +33,13 @@ loop-i-preserved c =
                   place = sym is;
                 }) old.marked);
             own = rw w.marks-is
-                (own-more hs ps g marks (set marks at taken_mark) i (λ p e. grind (arith, common_steps))
+                (own-more hs ps g marks (set marks at taken_mark) i (λ p e. stays-taken marks at p within e)
                 (λ p this. rw (← this.place, ← is)
                 (w.if-marks-place.false, get_or-set_same marks at taken_mark 0 within)) old.own);
           })
       | else-is_before w ↦ record {
-        len = grind (arith, common_steps);
-        marked = grind (arith, common_steps);
+        len = rw w.marks-is old.len;
+        marked = rw w.marks-is old.marked;
         own = rw w.marks-is
             (own-more hs ps g marks marks i (λ _ e. e)
             (λ p this. let no = is_before.1 (rw (← other) at this.before) in cc) old.own);
