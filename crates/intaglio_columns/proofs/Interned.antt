@@ -1,6 +1,6 @@
 -- What was interned of an input, and what lines behind it add.
-use Rattle.intaglio_columns.proofs.Names.{common_steps, Consumes, IsAtEnd, take-append-drop, interned, interned_all, issue_from, State, is_ended, lines_of, ended-append, lines_of-append, texts, FrozenKind, Allows, distinct_lines, HasInterned, IsInterned, ReadsMore, Consumes-nil, Consumes-trans}
-use Rattle.std.proofs.Common.{◌≡◌, ◌∙◌, ◌⊎◌, inl, inr, sym, ap, refl, subst, ℕ, zero, suc, ◌+◌, ◌-◌, ◌^◌, ◌<◌, ◌≤◌, min, Bool, true, List, [], ◌∷◌, ◌++◌, length, take, drop, get_or, Option, None, Some, IfSome, append_assoc, append-nil, length-append, arith}
+use Rattle.intaglio_columns.proofs.Names.{common_steps, Consumes, IsAtEnd, drop_all, take-append-drop, take_all, interned, interned_all, issue_from, State, is_ended, lines_of, ended-append, lines_of-append, texts, FrozenKind, Allows, distinct_lines, HasInterned, IsInterned, ReadsMore, Consumes-nil, Consumes-trans}
+use Rattle.std.proofs.Common.{◌≡◌, ◌∙◌, ◌⊎◌, inl, inr, sym, ap, refl, subst, ℕ, zero, suc, ◌+◌, ◌-◌, ◌^◌, ◌<◌, ◌≤◌, min, Bool, false, true, List, [], ◌∷◌, ◌++◌, length, take, drop, get_or, Option, None, Some, IfSome, append_assoc, append-nil, length-append, arith}
 use Rattle.std.proofs.Math.Seq.{take-suc}
 use Rattle.std.proofs.lemmas.Str.{IsUtf8-append, IsUtf8-nil}
 use Rattle.intaglio_interner.proofs.Held.{interned_all-append, interned_all-longer, issue_from-append}
@@ -132,42 +132,46 @@ module _ {kind : FrozenKind} {is_kept : Bool} {input left : Option (List ℕ)} {
     done = has.done;
   }
 
-  -- whole lines at the front of the bytes that were held are interned, and dropped from these
-  pub more-interned : {new : State (List ℕ)} {later : List ℕ} {after : ℕ} (n : ℕ) →
-      is_ended (take n bytes) ≡ true
-      → ((front : List ℕ) → is_ended front ≡ true → IsInterned kind is_kept front state symbols count →
-      IsInterned kind is_kept (front ++ take n bytes) new later after)
-      → HasInterned kind is_kept input left (drop n bytes) new later after
-  more-interned n end add = record {
-    front = has.front ++ take n bytes;
-    ended = ended-append has.front (take n bytes) has.ended end;
-    read = subst (Consumes input left) (ap (λ t. has.front ++ t) (sym (take-append-drop n bytes))
-        ∙ sym (append_assoc has.front (take n bytes) (drop n bytes))) has.read;
-    done = add has.front has.ended has.done;
-  }
+  -- lines at the front of the bytes that are held, which are whole if more bytes follow, and otherwise all
+  module _ (n : ℕ) {held : List ℕ} (same : held ≡ bytes) where
+    -- whole lines are interned, and dropped from the bytes
+    pub more-interned : {new : State (List ℕ)} {later : List ℕ} {after : ℕ} → is_ended (take n bytes) ≡ true
+        → ((front : List ℕ) → is_ended front ≡ true → IsInterned kind is_kept front state symbols count →
+        IsInterned kind is_kept (front ++ take n held) new later after)
+        → HasInterned kind is_kept input left (drop n bytes) new later after
+    more-interned {new} {later} {after} end add = record {
+      front = has.front ++ take n bytes;
+      ended = ended-append has.front (take n bytes) has.ended end;
+      read = subst (Consumes input left) (ap (λ t. has.front ++ t) (sym (take-append-drop n bytes))
+          ∙ sym (append_assoc has.front (take n bytes) (drop n bytes))) has.read;
+      done = subst (λ t. IsInterned kind is_kept (has.front ++ take n t) new later after) same
+          (add has.front has.ended has.done);
+    }
 
-  -- at the end of the input the bytes that are held are interned too, and then all lines are
-  pub all-interned : IsAtEnd left → (new : State (List ℕ)) (later : List ℕ) (after : ℕ)
-      → ((front : List ℕ) → is_ended front ≡ true → IsInterned kind is_kept front state symbols count →
-      IsInterned kind is_kept (front ++ bytes) new later after)
-      → IfSome input (λ input. IsInterned kind is_kept input new later after)
-  all-interned end new later after add = of-whole _ input left _ has.read (λ rest is.
-      rw (is end, append-nil (has.front ++ bytes)) (add has.front has.ended has.done))
+    -- at the end of the input all bytes are interned, and then all lines are
+    pub all-interned : n ≡ length bytes → IsAtEnd left → (new : State (List ℕ)) (later : List ℕ) (after : ℕ)
+        → ((front : List ℕ) → is_ended front ≡ true → IsInterned kind is_kept front state symbols count →
+        IsInterned kind is_kept (front ++ take n held) new later after)
+        → IfSome input (λ input. IsInterned kind is_kept input new later after)
+    all-interned all end new later after add = of-whole _ input left _ has.read (λ rest is.
+        rw (is end, append-nil (has.front ++ bytes))
+        (subst (λ t. IsInterned kind is_kept (has.front ++ t) new later after)
+        (ap (take n) same ∙ take_all n bytes (omega (arith, all))) (add has.front has.ended has.done)))
 
-  -- what is said of lines at the front of the bytes, whatever comes before and behind, is said of the input
-  pub said-of-lines : (P : List ℕ → Type 0) (n : ℕ) → is_ended (take n bytes) ≡ true
-      → ((front rest : List ℕ) → is_ended front ≡ true → (is_ended (take n bytes) ≡ true) ⊎ (rest ≡ []) →
-      IsInterned kind is_kept front state symbols count → P (front ++ (take n bytes ++ rest)))
-      → IfSome input P
-  said-of-lines P n end says = of-whole P input left (has.front ++ bytes) has.read (λ rest is.
-      subst P (ap (λ t. has.front ++ t) (sym (append_assoc (take n bytes) (drop n bytes) rest)
-      ∙ ap (λ t. t ++ rest) (take-append-drop n bytes)) ∙ sym (append_assoc has.front bytes rest))
-      (says has.front (drop n bytes ++ rest) has.ended (inl end) has.done))
+    whole : (more : Bool) (rest : List ℕ) → (more ≡ true → is_ended (take n bytes) ≡ true) →
+        (more ≡ false → n ≡ length bytes) → (more ≡ false → rest ≡ [])
+        → (is_ended (take n held) ≡ true) ⊎ (drop n bytes ++ rest ≡ [])
+    whole true rest ended all none = inl (rw same (ended refl))
+    whole false rest ended all none = inr (rw (drop_all n bytes (omega (arith, all refl))) (none refl))
 
-  -- the same of all bytes that are held at the end of the input, which needn't end with a line end
-  pub said-of-last : (P : List ℕ → Type 0) → IsAtEnd left
-      → ((front rest : List ℕ) → is_ended front ≡ true → (is_ended bytes ≡ true) ⊎ (rest ≡ []) →
-      IsInterned kind is_kept front state symbols count → P (front ++ (bytes ++ rest))) → IfSome input P
-  said-of-last P end says = of-whole P input left (has.front ++ bytes) has.read (λ rest is.
-      subst P (sym (append_assoc has.front bytes rest))
-      (says has.front rest has.ended (inr (is end)) has.done))
+    -- what is said of the lines, whatever comes before and behind, is said of the input
+    pub said-of-lines : (P : List ℕ → Type 0) (more : Bool) → (more ≡ true → is_ended (take n bytes) ≡ true)
+        → (more ≡ false → n ≡ length bytes) → (more ≡ false → IsAtEnd left)
+        → ((front rest : List ℕ) → is_ended front ≡ true → (is_ended (take n held) ≡ true) ⊎ (rest ≡ []) →
+        IsInterned kind is_kept front state symbols count → P (front ++ (take n held ++ rest))) → IfSome input P
+    said-of-lines P more ended all end says = of-whole P input left (has.front ++ bytes) has.read (λ rest is.
+        subst P (ap (λ t. has.front ++ (take n t ++ (drop n bytes ++ rest))) same
+        ∙ ap (λ t. has.front ++ t) (sym (append_assoc (take n bytes) (drop n bytes) rest)
+        ∙ ap (λ t. t ++ rest) (take-append-drop n bytes)) ∙ sym (append_assoc has.front bytes rest))
+        (says has.front (drop n bytes ++ rest) has.ended (whole more rest ended all (λ last. is (end last)))
+        has.done))

@@ -1,25 +1,25 @@
 //! Freezes the lines of an input, from bytes read to bytes written.
-ghost use Rattle.std.specs.Prelude.{◌≡◌, ◌≢◌, ◌⊎◌, OnOk, IfErr, IfOk, IfSome};
+ghost use Rattle.std.specs.Prelude.{◌≡◌, ◌≢◌, ◌⊎◌, ◌<◌, ℕ, List, true, OnOk, IfErr, IfOk, IfSome};
 ghost use Rattle.std.specs.Io.KnownBytes.{IsAtEnd};
 ghost use Rattle.intaglio_lines.specs.Lines.{lines_of};
 ghost use Rattle.intaglio_lines.specs.Puts.{Writes};
 ghost use Rattle.intaglio_lines.specs.declared.error.StreamError.TheVariants.{Memory, Write as WriteFailed};
 ghost use Rattle.intaglio_frozen.specs.Freezing.{HasKeysFor, IsRefusal as IsTableRefusal, IsTableOf};
 ghost use Rattle.intaglio_frozen.specs.Layout.{shards};
-ghost use Rattle.intaglio_columns.specs.Frozen.{Allows, IsColumnOf, IsRefusal, WritesColumn, WritesTable, distinct_lines};
+ghost use Rattle.intaglio_frozen.specs.SetId.{IsAt};
+ghost use Rattle.intaglio_columns.specs.Frozen.{Allows, IsColumnOf, IsRefusal, WritesColumn, WritesTable, distinct_lines, line_symbols};
 ghost use Rattle.intaglio_columns.specs.Translation.{count_of};
 ghost use Rattle.intaglio_columns.specs.declared.error.FreezingError.TheVariants.{Stream};
 
 use crate::error::FreezingError;
-use crate::interning::{Interned, intern_input};
+use crate::interning::intern_input;
 use crate::progress::Progress;
 use crate::{column_bytes, id_of_table};
-use intaglio_frozen::{FreezeError, FrozenKind, Place, freeze_at};
+use intaglio_frozen::{FreezeError, FrozenKind, Place, StringList, freeze_at};
 use intaglio_lines::error::StreamError;
 use intaglio_symbol::Symbol;
 use std::alloc::Global;
 use std::hash::BuildHasher;
-use std::io;
 use std::io::{Read, Write};
 
 /// Writes a frozen table of the distinct lines of an input, and returns how many lines
@@ -54,12 +54,9 @@ pub fn freeze_lines<S: BuildHasher + Drop, R: Read, W: Write, P: Progress>(
     ensures err { IfErr result (λ e. IfSome (R.remaining reader.old) (λ input. IsRefusal kind input e)) }
     ensures nothing_written { IfErr result (λ e. e ≢ Stream WriteFailed → writer.new ≡ writer.old) }
 {
-    let made = intern_input(alloc, kind, false, builder, reader)?;
-    let bytes = made.frozen(alloc, kind, keys, progress)?;
-    match write_whole(&bytes, writer) {
-        Ok(()) => Ok(made.count),
-        Err(_) => Err(FreezingError::Stream(StreamError::Write)),
-    }
+    let (bytes, _, count) = frozen_input(alloc, kind, keys, false, builder, reader, progress)?;
+    write_whole(&bytes, writer)?;
+    Ok(count)
 }
 
 /// As [`freeze_lines`], and writes the column of the lines to `column`. It is written first: nothing of the
@@ -94,27 +91,50 @@ pub fn freeze_column_file<S: BuildHasher + Drop, R: Read, W: Write, V: Write, P:
     ensures order { (writer.new ≡ writer.old) ⊎ IfSome (R.remaining reader.old)
         (λ input. WritesColumn kind input V.contents column.old column.new) }
 {
-    let made = intern_input(alloc, kind, true, builder, reader)?;
-    let bytes = made.frozen(alloc, kind, keys, progress)?;
-    let file = column_of_table(alloc, &bytes, &made.symbols)?;
-    match write_whole(&file, column) {
-        Ok(()) => {}
-        Err(_) => return Err(FreezingError::Stream(StreamError::Write)),
-    }
-    match write_whole(&bytes, writer) {
-        Ok(()) => Ok(made.count),
-        Err(_) => Err(FreezingError::Stream(StreamError::Write)),
-    }
+    let (bytes, symbols, count) = frozen_input(alloc, kind, keys, true, builder, reader, progress)?;
+    write_column(alloc, &bytes, &symbols, column)?;
+    write_whole(&bytes, writer)?;
+    Ok(count)
 }
 
-// The column file of the symbols of lines under their frozen table.
-fn column_of_table(
+// The bytes of a frozen table of the distinct lines of an input, the symbols of its lines if they are kept, and
+// how many lines there are.
+fn frozen_input<S: BuildHasher + Drop, R: Read, P: Progress>(
+    alloc: Global,
+    kind: FrozenKind,
+    keys: Option<(u64, u64)>,
+    is_kept: bool,
+    builder: S,
+    reader: &mut R,
+    progress: &mut P,
+) -> Result<(Vec<u8>, Vec<Symbol>, u64), FreezingError>
+    ensures table { IfOk result (λ made. IfSome (R.remaining reader.old) (λ input.
+        let lines = distinct_lines input in let table = made.0.items in
+        IsTableOf kind lines table × (shards table ≡ 1) × HasKeysFor keys lines table)) }
+    ensures symbols { is_kept ≡ true → IfOk result
+        (λ made. IfSome (R.remaining reader.old) (λ input. made.1.items ≡ line_symbols input)) }
+    ensures count { IfOk result
+        (λ made. IfSome (R.remaining reader.old) (λ input. made.2 ≡ count_of (lines_of input))) }
+    ensures allowed { OnOk result (IfSome (R.remaining reader.old) (Allows kind)) }
+    ensures all_read { OnOk result (IsAtEnd (R.remaining reader.new)) }
+    ensures err { IfErr result (λ e. IfSome (R.remaining reader.old) (λ input. IsRefusal kind input e)) }
+{
+    let made = intern_input(alloc, kind, is_kept, builder, reader)?;
+    let bytes = frozen_list(alloc, &made.table, kind, keys, Place::SINGLE, progress)?;
+    Ok((bytes, made.symbols, made.count))
+}
+
+// Writes the column file of the symbols of lines under their frozen table.
+fn write_column<V: Write>(
     alloc: Global,
     table: &[u8],
     symbols: &[Symbol],
-) -> Result<Vec<u8>, FreezingError>
-    ensures column { IfOk result (λ file. IsColumnOf table.now symbols.now file.items) }
-    ensures err { IfErr result (λ e. e ≡ Stream Memory) }
+    column: &mut V,
+) -> Result<(), FreezingError>
+    ensures column { OnOk result ((file : List ℕ) × IsColumnOf table.now symbols.now file
+        × Writes V.contents column.old column.new file) }
+    ensures err { IfErr result (λ e. (e ≡ Stream Memory) ⊎ (e ≡ Stream WriteFailed)) }
+    ensures no_column { IfErr result (λ e. e ≢ Stream WriteFailed → column.new ≡ column.old) }
 {
     // The bytes are a frozen table, and each symbol is that of one of its
     // strings: only memory can be lacking.
@@ -122,36 +142,39 @@ fn column_of_table(
         return Err(FreezingError::Stream(StreamError::Memory));
     };
     match column_bytes(alloc, id, &symbols) {
-        Ok(file) => Ok(file),
+        Ok(file) => write_whole(&file, column),
         Err(_) => Err(FreezingError::Stream(StreamError::Memory)),
     }
 }
 
-impl<S: BuildHasher> Interned<S> {
-    // The bytes of a frozen table of the distinct lines. Both stages are reported.
-    fn frozen<P: Progress>(
-        &self,
-        alloc: Global,
-        kind: FrozenKind,
-        keys: Option<(u64, u64)>,
-        progress: &mut P,
-    ) -> Result<Vec<u8>, FreezeError>
-        ensures table { IfOk result (λ bytes. IsTableOf kind self.now.table.state.contents bytes.items) }
-        ensures single { IfOk result (λ bytes. shards bytes.items ≡ 1) }
-        ensures keyed { IfOk result (λ bytes. HasKeysFor keys self.now.table.state.contents bytes.items) }
-        ensures err { IfErr result (IsTableRefusal kind self.now.table.state.contents) }
-    {
-        progress.interned(self.table.len());
-        let bytes = freeze_at(alloc, &self.table, kind, keys, Place::SINGLE)?;
-        progress.frozen(bytes.len());
-        Ok(bytes)
-    }
+// Freezes a list at a place. Both stages are reported.
+pub(crate) fn frozen_list<L: StringList, P: Progress>(
+    alloc: Global,
+    list: &L,
+    kind: FrozenKind,
+    keys: Option<(u64, u64)>,
+    place: Place,
+    progress: &mut P,
+) -> Result<Vec<u8>, FreezeError>
+    requires { place.shard < place.shards }
+    ensures table { IfOk result (λ bytes. IsTableOf kind (L.strings list.now) bytes.items) }
+    ensures place { IfOk result (λ bytes. IsAt place bytes.items) }
+    ensures keyed { IfOk result (λ bytes. HasKeysFor keys (L.strings list.now) bytes.items) }
+    ensures err { IfErr result (IsTableRefusal kind (L.strings list.now)) }
+{
+    progress.interned(list.len());
+    let bytes = freeze_at(alloc, list, kind, keys, place)?;
+    progress.frozen(bytes.len());
+    Ok(bytes)
 }
 
 // Writes all bytes, and flushes.
-pub(crate) fn write_whole<W: Write>(bytes: &[u8], writer: &mut W) -> io::Result<()>
-    ensures { OnOk result (Writes W.contents writer.old writer.new bytes.now) }
+fn write_whole<W: Write>(bytes: &[u8], writer: &mut W) -> Result<(), FreezingError>
+    ensures written { OnOk result (Writes W.contents writer.old writer.new bytes.now) }
+    ensures err { IfErr result (λ e. e ≡ Stream WriteFailed) }
 {
-    writer.write_all(bytes)?;
-    writer.flush()
+    if writer.write_all(bytes).is_err() || writer.flush().is_err() {
+        return Err(FreezingError::Stream(StreamError::Write));
+    }
+    Ok(())
 }

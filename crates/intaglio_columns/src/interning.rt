@@ -55,19 +55,8 @@ pub fn intern_input<S: BuildHasher + Drop, R: Read>(
     ensures err { IfErr result (λ e. IfSome (R.remaining reader.old) (λ input. IsRefusal kind input e)) }
 {
     let mut made = Interned::new(alloc, builder)?;
-    let mut bytes = Vec::new(alloc);
-    for _ in 0..u64::MAX {
-        let seen = bytes.len();
-        let more = read_block(reader, &mut bytes)?;
-        if !more {
-            made.add(alloc, kind, is_kept, &bytes)?;
-            return Ok(made);
-        }
-        let size = size_of_lines(&bytes, seen);
-        made.add(alloc, kind, is_kept, &bytes[..size])?;
-        drop_front(&mut bytes, size);
-    }
-    Err(FreezingError::Stream(StreamError::Read))
+    made.add_all(alloc, kind, is_kept, reader)?;
+    Ok(made)
 }
 
 impl<S: BuildHasher + Drop> Interned<S> {
@@ -85,6 +74,34 @@ impl<S: BuildHasher + Drop> Interned<S> {
             symbols: Vec::new(alloc),
             count: 0,
         })
+    }
+
+    // Interns the lines of an input where there were none.
+    fn add_all<R: Read>(
+        &mut self,
+        alloc: Global,
+        kind: FrozenKind,
+        is_kept: bool,
+        reader: &mut R,
+    ) -> Result<(), FreezingError>
+        requires { IsInterned kind is_kept [] self.old.table.state self.old.symbols.items self.old.count }
+        ensures interned { let new = self.new in OnOk result (IfSome (R.remaining reader.old)
+            (λ input. IsInterned kind is_kept input new.table.state new.symbols.items new.count)) }
+        ensures all_read { OnOk result (IsAtEnd (R.remaining reader.new)) }
+        ensures err { IfErr result (λ e. IfSome (R.remaining reader.old) (λ input. IsRefusal kind input e)) }
+    {
+        let mut bytes = Vec::new(alloc);
+        for _ in 0..u64::MAX {
+            let seen = bytes.len();
+            let more = read_block(reader, &mut bytes)?;
+            let size = size_of_lines(&bytes, seen, more);
+            self.add(alloc, kind, is_kept, &bytes[..size])?;
+            if !more {
+                return Ok(());
+            }
+            drop_front(&mut bytes, size);
+        }
+        Err(FreezingError::Stream(StreamError::Read))
     }
 
     // Drops the symbols unless they are kept.
@@ -158,13 +175,18 @@ fn read_block<R: Read>(reader: &mut R, bytes: &mut Vec<u8>) -> Result<bool, Free
     }
 }
 
-// How many bytes at the front are whole lines. The first `seen` have no line end that is sought.
-fn size_of_lines(bytes: &[u8], seen: usize) -> usize
+// How many bytes at the front are whole lines, or all of them if no more follow. The first `seen` have no line
+// end that is sought.
+fn size_of_lines(bytes: &[u8], seen: usize, more: bool) -> usize
     requires { seen ≤ length bytes.now }
     ensures within { result ≤ length bytes.now }
-    ensures ended { is_ended (take result bytes.now) ≡ true }
+    ensures ended { more ≡ true → is_ended (take result bytes.now) ≡ true }
+    ensures all { more ≡ false → result ≡ length bytes.now }
 {
     let mut size = bytes.len();
+    if !more {
+        return size;
+    }
     while size > seen {
         if bytes[size - 1] == b'\n' {
             return size;

@@ -9,8 +9,9 @@ ghost use Rattle.intaglio_frozen.specs.declared.kind.FrozenKind.{FrozenKind};
 ghost use Rattle.intaglio_columns.specs.declared.error.FreezingError.TheVariants.{Stream};
 
 use crate::error::FreezingError;
+use crate::freezing::frozen_list;
 use crate::progress::Progress;
-use intaglio_frozen::{FreezeError, Frozen, FrozenKind, Merged, Place, freeze_at, merge_tables};
+use intaglio_frozen::{FreezeError, Frozen, FrozenKind, Merged, Place, merge_tables};
 use intaglio_lines::error::StreamError;
 use intaglio_symbol::{InternError, Symbol};
 use std::alloc::Global;
@@ -62,9 +63,7 @@ pub(crate) fn frozen_union<S: BuildHasher + Drop, P: Progress>(
     ensures err { IfErr result (IsUnionRefusal kind (union tables.now)) }
 {
     let merged = merged_tables(alloc, tables, builder)?;
-    progress.interned(merged.table.len());
-    let bytes = freeze_at(alloc, &merged.table, kind, keys, place)?;
-    progress.frozen(bytes.len());
+    let bytes = frozen_list(alloc, &merged.table, kind, keys, place, progress)?;
     Ok((bytes, merged.maps))
 }
 

@@ -1,5 +1,5 @@
 -- The range's codes begin at its first row, so the code of a row is item `row - first` of them.
-use Rattle.std.proofs.Common.{◌≡◌, ◌∙◌, ◌+◌, ◌-◌, ◌++◌, drop, slice_get, ap, sym, arith}
+use Rattle.std.proofs.Common.{◌≡◌, ◌∙◌, ◌+◌, ◌-◌, drop, slice_get, ap, sym, arith}
 use Rattle.intaglio_columns.proofs.Names.{option_map, spelling_line, code_line}
 use Rattle.intaglio_columns.specs.Layout.{codes}
 use Rattle.intaglio_columns.proofs.Overlaid.{read-behind}
@@ -24,3 +24,9 @@ loop-row-preserved g c =
           line c.loop-row.invariant.lines (ap spelling_line c.in-Some.ensures.line));
       within = omega (arith, c.loop-row-test.true, c.loop-row.auto.row);
     }
+
+pub returns-clause-lines : goal.returns-clause-lines
+returns-clause-lines g c =
+    let same : c.loop-row.row - c.args.range.first ≡ c.args.range.last + 1 - c.args.range.first =
+    omega (arith, c.loop-row.invariant.within, c.loop-row-test.false) in
+    rw same at c.loop-row.invariant.lines

@@ -1,6 +1,6 @@
 -- What `decoded` reads at a symbol by position is what the dictionary returned, so the lines are the same.
 use Rattle.std.proofs.Common.{[], ap, sym, rules, refl, slice_index_or}
-use Rattle.intaglio_columns.proofs.Names.{get_or_from_slice_get, slice_get_read, spelling_line}
+use Rattle.intaglio_columns.proofs.Names.{get_or_from_slice_get, slice_get_read, spelling_line, take_all}
 use Rattle.intaglio_columns.proofs.Listed.{same-next}
 use Rattle.intaglio_columns.proofs.strings.strings_of.Goals as goal
 
@@ -17,3 +17,7 @@ loop-symbol-preserved g c =
     c.loop-symbol.strings.items c.in-Some.string
     (λ n. spelling_line (slice_index_or strings n [])) c.loop-symbol.invariant
     (ap spelling_line (sym string)))
+
+pub returns-clause-lines : goal.returns-clause-lines
+returns-clause-lines g c =
+    rw (take_all c.loop-symbol.symbol-index c.args.symbols.now c.loop-symbol-test.false) at c.loop-symbol.invariant

@@ -1,6 +1,6 @@
 -- Groups of lines at the front of bytes.
-use Rattle.std.proofs.Common.{◌≡◌, ◌∙◌, sym, ap, refl, subst, ℕ, zero, suc, ◌+◌, ◌-◌, ◌^◌, ◌<◌, min, Bool, true, List, [], ◌∷◌, ◌++◌, length, map, take, drop, drop-cons, get_or, Some, arith}
-use Rattle.intaglio_columns.proofs.Names.{slice_get, get_or-map, length-take, take-append-drop, All-nil, All-cons, All-append, slice_get_within, get_or_from_slice_get, AllFit, ReportsAmong, ReportsPiece, WritesPart, TranslateError, encoded_line, has_code}
+use Rattle.std.proofs.Common.{◌≡◌, ◌∙◌, sym, ap, refl, subst, ℕ, zero, suc, ◌+◌, ◌-◌, ◌^◌, ◌<◌, ◌≤◌, min, Bool, true, List, [], ◌∷◌, ◌++◌, length, map, take, drop, drop-cons, get_or, Some, arith}
+use Rattle.intaglio_columns.proofs.Names.{slice_get, get_or-map, length-map, length-take, take-append-drop, take_all, All-nil, All-cons, All-append, slice_get_within, get_or_from_slice_get, AllFit, ReportsAmong, ReportsPiece, WritesPart, TranslateError, encoded_line, has_code}
 use Rattle.intaglio_columns.proofs.Listed.{next, appends-next, front-next}
 use Rattle.intaglio_columns.proofs.Parts.{reports-at, on-err, one-part, part-behind, passed-on}
 use Rattle.intaglio_columns.proofs.encoding.Encoding.put_each.Goals as goal
@@ -38,6 +38,9 @@ module _ {X : Type 0} where
   mapped-get : {Y : Type 0} (f : X → Y) (xs : List X) (ys : List Y) (i : ℕ) (d : X) (e : Y) →
       i < length xs → ys ≡ map f xs → get_or ys i e ≡ f (get_or xs i d)
   mapped-get f xs ys i d e lt is = ap (λ t. get_or t i e) is ∙ get_or-map f xs i d e lt
+
+  all-mapped : (f : X → List ℕ) (xs : List X) (i : ℕ) → length xs ≤ i → take i (map f xs) ≡ map f xs
+  all-mapped f xs i past = take_all i (map f xs) (rw (length-map xs f) past)
 
 pub loop-i-preserved : goal.loop-i-preserved
 loop-i-preserved g c =
@@ -79,3 +82,17 @@ returns-in_err-put_next-clause-part g c =
     (part-behind (take c.loop-i.i lines) (drop (suc c.loop-i.i) lines) c.loop-i.invariant.fit
     c.loop-i.invariant.put c.loop-i.invariant.front
     (one-part c.put_next.ensures.front (λ unfit. ap g.W.Write.contents (c.put_next.ensures.unfit unfit)))))
+
+-- after all lines
+pub returns-clause-fit : goal.returns-clause-fit
+returns-clause-fit g c =
+    subst (AllFit (has_code (g.D.Dictionary.strings c.args.self.now.table.now) c.args.self.now.missing))
+    (all-mapped (λ line. line.now) c.args.lines.now c.loop-i.i c.loop-i-test.false) c.loop-i.invariant.fit
+
+pub returns-clause-put : goal.returns-clause-put
+returns-clause-put g c =
+    rw (all-mapped (λ line. line.now) c.args.lines.now c.loop-i.i c.loop-i-test.false) at c.loop-i.invariant.put
+
+pub returns-clause-front : goal.returns-clause-front
+returns-clause-front g c =
+    rw (all-mapped (λ line. line.now) c.args.lines.now c.loop-i.i c.loop-i-test.false) at c.loop-i.invariant.front
