@@ -18,10 +18,9 @@ TOP = Path(__file__).resolve().parent.parent
 sys.path.append(str(TOP / "checks"))
 
 import arguments
-from pictures import in_the_dark, mark_of_bench
+from pictures import CHOICE, in_the_dark, marks
 
 FIGURES = TOP / "bench/figures.txt"
-CHOICE = TOP / "bench/choice.svg"
 
 # The lines: by the names of figures.txt what they are called, and their colours, markers and dashes. Colours differ in grey too.
 INK, GREY, FAINT = "#24292f", "#6e7781", "#d0d7de"
@@ -149,7 +148,7 @@ def main():
     ):
         wrote = io.StringIO()
         choice(tables()).savefig(wrote, format="svg", facecolor="#ffffff", metadata={"Date": None, "Creator": None})
-    CHOICE.write_text(f"{in_the_dark(lightened(wrote.getvalue()), DARK).rstrip()}\n{mark_of_bench()}\n", encoding="utf-8")
+    CHOICE.write_text(f"{in_the_dark(lightened(wrote.getvalue()), DARK).rstrip()}\n{marks()[CHOICE]}\n", encoding="utf-8")
 
 
 if __name__ == "__main__":

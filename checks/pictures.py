@@ -17,6 +17,7 @@ sys.dont_write_bytecode = True
 import arguments
 from sources import TOP, rows_of_crates, text_of, with_those_below
 
+CHOICE = TOP / "bench/choice.svg"
 LEFT_OUT = re.compile(r"tests|refused_allocations|bench|example_\w+")
 # Colours that are read on white, in grey too, and what they are in the dark, with those of docs/interning.dot.
 PROGRAMS, LIBRARIES, INK = "#ffffff", "#e8eef7", "#223344"
@@ -58,14 +59,12 @@ def in_the_dark(svg, colours):
     return re.sub(r"(<svg[^>]*>)", lambda it: f"{it[1]}\n{style}", svg, count=1)
 
 
-def mark(data, by="checks/pictures.py"):
-    return f"<!-- drawn from {hashlib.sha256(data).hexdigest()[:16]} by {by} -->"
-
-
 def marks():
-    """The last line of each picture."""
-    own = {path: mark((text + repr(DARK)).encode()) for path, text in sources_of().items()}
-    return {**own, TOP / "bench/choice.svg": mark_of_bench()}
+    """The last line of each picture, with the sum of what it is drawn from, and by what."""
+    drawn = {path: ("checks/pictures.py", text + repr(DARK)) for path, text in sources_of().items()}
+    drawn[CHOICE] = "bench/plot.py", "".join(text_of(TOP / "bench" / it) for it in ("figures.txt", "plot.py"))
+    sums = {path: hashlib.sha256(text.encode()).hexdigest()[:16] for path, (_, text) in drawn.items()}
+    return {path: f"<!-- drawn from {sums[path]} by {by} -->" for path, (by, _) in drawn.items()}
 
 
 def wrong():
@@ -73,11 +72,6 @@ def wrong():
     for path, line in marks().items():
         if not path.is_file() or line not in text_of(path):
             yield f"{path.relative_to(TOP)}: isn't drawn from its source as that is: run {line.split()[-2]}"
-
-
-def mark_of_bench():
-    """The last line of bench/choice.svg: the sum of what bench/plot.py draws it from."""
-    return mark(b"".join((TOP / "bench" / name).read_bytes() for name in ("figures.txt", "plot.py")), "bench/plot.py")
 
 
 def main():
