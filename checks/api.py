@@ -23,10 +23,8 @@ FOLDER = TOP / "out/doc"
 LINK = re.compile(r"\[(`[^`]+`|[^\]`]+)\](?:\([^)]*\))?")
 EVIDENCE = """# Evidence
 
-It has the mutants of each promise of docs/PROMISES.md, which are wrong edits of functions, and its tests. Of a mutant it
-says which clauses refuse it. `ensures` is a clause without a name, `invariant` that of a type, `requires` one of a
-function that is called, `loop` the invariant of a loop, and `bounds` the bounds of an index. A mutant that 'stays' isn't
-removed while its clause is there.
+It has the mutants of each promise of docs/PROMISES.md, and its tests. Of a mutant it says which clauses refuse it, by
+the names of CONTRIBUTING.md. A mutant that 'stays' isn't removed while its clause is there.
 """
 FILES = "# Files\n\nEach file of sources with what its first lines say, from the lowest crate to the highest.\n"
 
@@ -107,7 +105,7 @@ def of_promise(every, promise, tests):
 
 def main():
     name, every = arguments.parser(__doc__, name="?").parse_args().name, sources.Sources()
-    tests = dict(every.evidence)
+    tests = {it: names for promises, names in every.evidence for it in promises.split()}
     promises = {it: of_promise(every, it, tests.get(it, ())) for it in dict.fromkeys([*tests, *every.shown])}
     libraries = sorted(it.parents[1].name for it in TOP.glob("crates/*/src/lib.rt"))
     pages = {"files": [FILES], "evidence": [EVIDENCE, *promises.values()]}

@@ -219,8 +219,7 @@ class Sources:
         for edit in self.mutants:
             for it in edit.shows:
                 self.shown[it.removesuffix("!")].append(edit)
-        blocks = (it.partition(":")[::2] for it in paragraphs("evidence.txt"))
-        self.evidence = [(promise, tests.split()) for promises, tests in blocks for promise in promises.split()]
+        self.evidence = [(it.partition(":")[0], it.partition(":")[2].split()) for it in paragraphs("evidence.txt")]
 
     def is_public(self, function):
         """Whether callers of its crate can call a function: in its root or a public module, or as it is re-exported."""
