@@ -17,7 +17,6 @@ hypothesis.settings.load_profile("gate")
 
 def pytest_addoption(parser):
     parser.addoption("--count", type=int, default=200_000, help="how many damaged frozen tables are made")
-    parser.addoption("--rounds", type=int, default=25, help="how many rounds of freezes to one file")
     parser.addoption("--part", default="0/1", help="K/N: runs the K-th of each N tests, counted from 0")
 
 

@@ -302,18 +302,14 @@ def encoded(strings, lines):
     return [symbols.get(it, MISSING) for it in lines]
 
 
-def decoded(values, codes, missing=None, fault="is no symbol"):
+def decoded(values, codes, missing=None):
     """The value of each code, and of missing ones this one, if there is one."""
     for place, code in enumerate(codes, 1):
         if code == MISSING and missing is None:
             raise Damaged(place, LINELESS)
         if code >= len(values) and code != MISSING:
-            raise Damaged(place, f"is {code}, which {fault}")
+            raise Damaged(place, f"is {code}, which is no symbol")
     return [missing if it == MISSING else values[it] for it in codes]
-
-
-# The codes under a map; missing ones stay so.
-renumbered = functools.partial(decoded, missing=MISSING, fault="isn't in the map")
 
 
 def shard_of(count, string):

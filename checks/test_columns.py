@@ -15,8 +15,6 @@ from formats import (
     BYTES, KINDS, LINELESS, MISSING, TEXT, dictionary_of, encoded, ended, freeze, is_text, lines_of, packed, put, random_parts,
     read_dictionary, width_for,
 )
-from hypothesis import given, settings
-from hypothesis import strategies as st
 from programs import TOP, run
 from test_tables import LISTS
 from tool import DONE, ONE, TRUSTED_FOLDER, WHOLE, left, made, other_dictionary, read, said, wrote
@@ -143,8 +141,9 @@ def test_lists(tool, lines):
 
 
 @pytest.mark.parametrize("kind, counts", [(BYTES, [1, 2]), (TEXT, [3, 7]), (BYTES, [16])])
-@pytest.mark.parametrize("size", [0, 1, 30, 300, 3_000, 20_000])
+@pytest.mark.parametrize("size", [*range(9), 30, 300, 3_000, 20_000])
 def test_sizes(tool, size, kind, counts):
+    """Few lines are of few different ones, so that many are equal."""
     chance = random.Random(size)
     check_all(tool, chance, random_parts(chance, size, kind), kind, counts)
 
@@ -156,16 +155,6 @@ def test_large_sizes(tool, size, kind):
     parts = random_parts(chance, size, kind)
     test_shards.check_parts(tool, parts, kind, None if kind else 3)
     assert size > 100_000 or not check_lines(tool, chance, [*itertools.chain(*parts)], kind, None)
-
-
-FEW_LINES = st.lists(st.binary(max_size=3).filter(lambda it: b"\n" not in it), max_size=12)
-
-
-@settings(max_examples=20)
-@given(st.lists(FEW_LINES, min_size=1, max_size=5), st.integers(0, 2**32), st.integers(1, 9))
-def test_any_parts(tool, parts, seed, count):
-    """Few different lines, so that many are equal."""
-    check_all(tool, random.Random(seed), parts, BYTES, [count])
 
 
 FEW = [b"a", b"bb", b""]

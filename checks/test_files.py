@@ -212,7 +212,7 @@ def test_several_processes(request, names, count):
     writers = [writer_of(request, it) for it in names * (count // len(names))]
     lists = [[b"%d %d" % (it, number) for number in range(1500 + 400 * it)] for it in range(count)]
     tables = [*map(freeze, lists)]
-    for turn in range(request.config.getoption("rounds")):
+    for turn in range(25):
         failing = turn // 2 % count if turn % 2 else None
         under = [FAILING if it == failing else () for it in range(count)]
         with ThreadPoolExecutor(count) as pool:

@@ -329,9 +329,9 @@ class History:
 
 
 @pytest.mark.parametrize("seed", range(8))
-def test_histories(tool, folder, seed, request):
+def test_histories(tool, folder, seed):
     decoded = 0
-    for turn in range(2 + request.config.getoption("rounds") // 5):
+    for turn in range(7):
         os.chdir(tempfile.mkdtemp(dir=folder))
         decoded += History(tool, 1000 * seed + turn).go()
     assert decoded

@@ -193,7 +193,7 @@ class Encoding(Case):
             codes = array("I", bytes(data))
             for call, other in (
                 (words.decode, lambda: formats.decoded(list(words), list(codes))),
-                (lambda it: list(renumber(it, numbers)), lambda: formats.renumbered(list(numbers), list(codes))),
+                (lambda it: list(renumber(it, numbers)), lambda: formats.decoded(list(numbers), list(codes), MISSING)),
             ):
                 try:
                     wanted = other()
