@@ -12,8 +12,8 @@ from pathlib import Path
 import pytest
 import test_shards
 from formats import (
-    BYTES, KINDS, LINELESS, MISSING, TEXT, dictionary_of, encoded, ended, freeze, is_text, lines_of, packed, put, random_parts,
-    read_dictionary, width_for,
+    BYTES, KINDS, LINELESS, MISSING, TEXT, dictionary_of, encoded, ended, files_in, freeze, is_text, lines_of, packed, put,
+    random_parts, read_dictionary, width_for,
 )
 from programs import TOP, run
 from test_tables import LISTS
@@ -101,8 +101,11 @@ def check_lines(tool, chance, lines, kind, count):
     """Tries the commands on the column of lines, and on one with missing lines, with a dictionary in a file or in shards."""
     name, again, shards = f"dict{count}", f"again{count}", ["--shards", str(count)] if count else []
     whole = test_shards.check_freeze(tool, name, lines, kind, count)
-    freezes = ["freeze", "--kind", KINDS[kind], *shards, "-o", again, "--column", "-", "--random-keys"]
+    keys = chance.choice(((), (0, 0), (2**64 - 1, 0), (chance.getrandbits(64), chance.getrandbits(64))))
+    drawn = ["--keys", f"{keys[0]},{keys[1]}"] if keys else ["--random-keys"]
+    freezes = ["freeze", "--kind", KINDS[kind], *shards, "-o", again, "--column", "-", *drawn]
     assert tool(*freezes, given=ended(lines)) == wrote(whole.column(lines)) == tool("encode", again, given=ended(lines))
+    assert not keys or files_in(again) == whole.files(*keys)
     os.replace(f"{name}.column", "column")
     check_column(tool, chance, name, whole, lines)
     some = [it if chance.random() < 0.9 else None for it in lines]

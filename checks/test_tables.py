@@ -7,13 +7,11 @@ import resource
 import subprocess
 from pathlib import Path
 
-import hypothesis
 import pytest
 from formats import (
     BYTES, KINDS, MISSING, TEXT, Dictionary, Frozen, dictionary_of, encoded, ended, freeze, lines_of, map_of, packed, put,
     sip_hash,
 )
-from hypothesis import strategies as st
 from programs import TOP, unread
 from tool import DONE, NAME, UNREAD, WORDS, read, said, wrote
 
@@ -62,19 +60,6 @@ def check_commands(tool, name, whole, shard=None):
         assert not some or tool("get", *words, name, *map(str, some)) == wrote(ended(strings[it] for it in some))
         absent = tool("get", *words, name, *map(str, [*some, len(strings)]))
         assert absent == said(1, f"{name}: no string has the symbol {len(strings)}")
-
-
-KEYS = st.integers(0, 2**64 - 1)
-DISTINCT = st.lists(st.binary(max_size=11).filter(lambda it: b"\n" not in it), unique=True, max_size=400)
-
-
-@hypothesis.settings(max_examples=60)
-@hypothesis.given(DISTINCT, st.sampled_from(((0, 0), (2**64 - 1, 0))) | st.tuples(KEYS, KEYS))
-def test_random_lists(tool, strings, keys):
-    """Two processes that freeze the same lines under the same keys write the bytes that the other writer does."""
-    for name in ("first", "second"):
-        assert tool("freeze", "--keys", f"{keys[0]},{keys[1]}", "-o", name, given=ended(strings)) == DONE
-        assert read(name) == freeze(strings, BYTES, *keys)
 
 
 def test_random_keys(tool):
