@@ -223,8 +223,12 @@ def test_sessions_of_the_page(tool):
         assert run(["/bin/sh", "-c", command]) == wrote(wanted.encode())
 
 
-def test_example(tool):
-    """The worked example compares what comes back itself. The names of its files may be odd."""
+def test_example(tool, folder):
+    """The worked example compares what comes back itself. The names of its files may be odd, but not its number of parts."""
+    for parts in ("0", "-1", "x", "", "3x", "1.5", "08", " 3", "a[$(touch made)]", "9999999"):
+        status, written, told = run([f"{TOP}/examples/columns", "lines", parts], DICT=tool.path, PATH=os.environ["PATH"])
+        assert (status, written, told[0]) == (2, b"", f"columns: PARTS is a number from 1 to 999999, and not '{parts}'")
+    assert not [*folder.iterdir()]
     odd = os.path.abspath("a folder, 5% 'odd'")
     os.mkdir(odd)
     os.symlink(tool.path, f"{odd}/dict")
@@ -235,10 +239,3 @@ def test_example(tool):
             ran = run([f"{TOP}/examples/columns", f"{odd}/lines", "3"], PATH=os.environ["PATH"], **environment)
             assert (ran[0], ran[1].split(b"\n")[:2]) == (0, [b"kind bytes", b"strings %d" % len({*lines})])
             assert sorted(os.listdir(odd)) == ["dict", "lines"]
-
-
-@pytest.mark.parametrize("parts", ["0", "-1", "x", "", "3x", "1.5", "08", " 3", "a[$(touch made)]", "9999999"])
-def test_wrong_parts_of_the_example(tool, folder, parts):
-    status, written, told = run([f"{TOP}/examples/columns", "lines", parts], DICT=tool.path, PATH=os.environ["PATH"])
-    assert (status, written, told[0]) == (2, b"", f"columns: PARTS is a number from 1 to 999999, and not '{parts}'")
-    assert not [*folder.iterdir()]
