@@ -99,6 +99,8 @@ def of_promise(every, promise, tests):
         for it in every.shown[promise]
     ]
     files = {name: it.file for it in every.tests for name in (it.name, f"{it.crate}/{it.name}")}
+    scripts = ((it.relative_to(TOP), sources.text_of(it)) for it in TOP.glob("crates/tests/src/**/*.rt"))
+    files |= {name: place for place, text in scripts for name in re.findall(r"(?m)^(\w+):$", text)}
     lines += [f"test `{it}` in {files.get(it, it)}" for it in tests]
     return f"## {promise}\n\n" + "\n".join(map(wrapped, lines)) + "\n"
 
