@@ -66,7 +66,7 @@ pub record FindsRoom (n limit : ℕ) (old new : IndexState) (before after : Work
   pub grown : old.places ≤ n → new.places ≡ min limit (max 4 (2 * old.places))
   pub placed_again : old.places ≤ n → after.events ≡ before.events ++ replicate n placed
 
--- room for more than n contents was missing, and an allocation failed
+-- out of memory, where room for more than n contents was missing
 pub record FindsNoRoom (n capacity : ℕ) (old new : IndexState) (before after : Work) : Type 0 where
   pub full : min capacity old.room ≤ n
   pub kept : new.places ≡ old.places

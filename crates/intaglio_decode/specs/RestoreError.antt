@@ -13,7 +13,7 @@ Reports NoEmptyLine fault = fault ≡ Some Fault.no_empty_line
 Reports NotEnded fault = fault ≡ Some Fault.not_ended
 Reports (Stream failure) fault = Unit {0}
 
--- an input that was read isn't well formed, or an allocation failed
+-- an input that was read isn't well formed, or it is out of memory
 abbrev pub IsParsingError : RestoreError → Type 0
 IsParsingError (Stream stream_error.Read) = ⊥
 IsParsingError (Stream stream_error.Write) = ⊥

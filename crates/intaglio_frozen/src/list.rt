@@ -7,7 +7,7 @@ ghost use Rattle.intaglio_frozen.specs.declared.kind.FrozenKind.TheVariants.{Tex
 
 use crate::kind::FrozenKind;
 use intaglio::{Table, TableOver};
-use intaglio_content::Spelled;
+use intaglio_content::{Spelled, StringKind};
 use intaglio_core::BaseInterner;
 use intaglio_packed::Packed;
 use intaglio_symbol::Symbol;
@@ -28,7 +28,7 @@ pub trait StringList {
         ensures { slice_get (strings self.now) i ≡ Some result.now };
 }
 
-impl<K: intaglio_content::StringKind> StringList for Packed<K> {
+impl<K: StringKind> StringList for Packed<K> {
     ghost strings = { λ list. strings_of list };
 
     #[inline(always)]
@@ -86,7 +86,7 @@ impl<C: Spelled, S: BuildHasher> StringList for Table<C, S> {
     }
 }
 
-impl<K: intaglio_content::StringKind, S: BuildHasher> StringList for TableOver<Packed<K>, S> {
+impl<K: StringKind, S: BuildHasher> StringList for TableOver<Packed<K>, S> {
     ghost strings = { λ table. table.state.contents };
 
     #[inline(always)]
@@ -111,9 +111,7 @@ fn count_of<C: Spelled, S: BuildHasher>(table: &Table<C, S>) -> usize
 
 // The strings of a table.
 #[inline(always)]
-fn store_of<K: intaglio_content::StringKind, S: BuildHasher>(
-    table: &TableOver<Packed<K>, S>,
-) -> &Packed<K>
+fn store_of<K: StringKind, S: BuildHasher>(table: &TableOver<Packed<K>, S>) -> &Packed<K>
     ensures { strings_of result.now ≡ table.now.state.contents }
 {
     BaseInterner::store(table)
