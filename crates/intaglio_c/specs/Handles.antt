@@ -104,7 +104,7 @@ pub record IsNew (which : TableKind) (size : Size) (made : DefaultHasher) (t : S
   pub hasher : initial_hasher t.hasher ≡ made
 
 -- a new table of a kind and a size replaces what was held, unless the number is no kind's, the size is too
--- large, or memory is out
+-- large, or it is out of memory
 abbrev pub Makes : Option TableKind → Size → DefaultHasher → Handle → Result (Unit {0}) Refusal → Type 0
 Makes None size made new result = (result ≡ Err NoKind) × HoldsNone new
 Makes (Some kind) size made new (Ok _) = ¬ IsOutside size × IsSomeAnd (table_of new) (IsNew kind size made)
