@@ -88,8 +88,8 @@ impl From<AllocError> for InternError {
 
 /// Why a table wasn't made, or why a change of its capacity failed.
 ///
-/// After `CapacityOverflow` nothing has changed. After `Memory` a constructor has made no table, a
-/// reservation has left the contents unchanged and the capacity no lower, and a shrink has changed nothing.
+/// Then a constructor has made no table, a reservation has left the contents unchanged and the capacity no
+/// lower, and a shrink has changed nothing.
 #[derive(Debug, Clone, Copy, PartialEq, Eq)]
 pub enum RoomError {
     /// The requested capacity is above 2^32 or the table's limit, or the requested limit is 0 or above 2^32.
