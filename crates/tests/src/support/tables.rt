@@ -108,7 +108,9 @@ pub trait TestTable: Drop {
     fn put(&mut self, content: Self::Item) -> Result<Symbol, InternError>;
 
     /// As `intern_all`. A table in one buffer hasn't that call, and is given to the function of this name.
-    fn put_all(&mut self, alloc: Global, contents: Vec<Self::Item>) -> Symbols;
+    fn put_all(&mut self, alloc: Global, contents: Vec<Self::Item>) -> Symbols {
+        self.put_counted(alloc, contents)
+    }
 
     /// By the function `intern_all`.
     fn put_counted(&mut self, alloc: Global, contents: Vec<Self::Item>) -> Symbols;
@@ -170,10 +172,6 @@ impl<K: TestKind, S: HasherCount> TestTable for TableOver<Packed<K>, S> {
 
     fn put(&mut self, content: ContentOf<K>) -> Result<Symbol, InternError> {
         self.intern(content)
-    }
-
-    fn put_all(&mut self, alloc: Global, contents: Vec<ContentOf<K>>) -> Symbols {
-        intern_all::<Copied, _, _>(alloc, self, contents, &mut Work::new())
     }
 
     fn put_counted(&mut self, alloc: Global, contents: Vec<ContentOf<K>>) -> Symbols {

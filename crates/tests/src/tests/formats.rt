@@ -4,5 +4,5 @@ mod absorbing;
 mod chosen_strings;
 mod column_files;
 mod frozen_tables;
-mod packing;
 mod sharding;
+mod words;

@@ -3,20 +3,13 @@
 ghost use Rattle.intaglio_frozen.specs.IsFrozen.{AreTexts};
 ghost use Rattle.intaglio_frozen.specs.Merging.{AreAccepted};
 
-use super::packing::packed_of;
 use crate::support::kinds::{BStrKind, BytesKind, Host, OsStrKind, PathKind, StrKind};
 use crate::tests::assertions::{holds, same};
-use intaglio::packed::bytes::SymbolTable;
 use intaglio::packed::{Packed, PackedForm};
 use intaglio::{ContentOf, Table, TableOver};
 use intaglio_core::{BaseInterner, InternError, Symbol, Work};
 use intaglio_frozen::{FromString, StringList, absorb, are_texts};
 use intaglio_hash::FixedState;
-
-// A list of these strings.
-fn list_of(rt: &impl Host, strings: &[&[u8]]) -> SymbolTable {
-    packed_of::<BytesKind>(rt, strings)
-}
 
 // Asserts that an empty table that holds two contents takes in two strings, and not a third one.
 fn absorbs<'s, L: StringList, T: BaseInterner>(
@@ -83,9 +76,9 @@ fn absorb_bytes<L: StringList>(rt: &impl Host, two: &L, three: &L) {
 
 #[test]
 fn tables_of_bytes_absorb_all_strings_or_none(rt: HostRuntime) {
-    let two = list_of(&rt, &[b"a/b", b""]);
-    let three = list_of(&rt, &[b"\xff", b"", b"a/b"]);
-    absorb_bytes(&rt, &two, &three);
+    let two: [&[u8]; 2] = [b"a/b", b""];
+    let three: [&[u8]; 3] = [b"\xff", b"", b"a/b"];
+    absorb_bytes(&rt, &two.as_slice(), &three.as_slice());
 }
 
 fn absorb_texts<L: StringList>(rt: &impl Host, two: &L, three: &L)
@@ -109,7 +102,7 @@ fn absorb_if_texts<L: StringList>(rt: &impl Host, two: &L, three: &L) {
 
 #[test]
 fn tables_of_texts_absorb_all_strings_or_none(rt: HostRuntime) {
-    let two = list_of(&rt, &[b"a/b", b""]);
-    let three = list_of(&rt, &[b"\xc3\xa9", b"", b"a/b"]);
-    absorb_if_texts(&rt, &two, &three);
+    let two: [&[u8]; 2] = [b"a/b", b""];
+    let three: [&[u8]; 3] = [b"\xc3\xa9", b"", b"a/b"];
+    absorb_if_texts(&rt, &two.as_slice(), &three.as_slice());
 }

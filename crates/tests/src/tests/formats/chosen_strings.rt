@@ -1,9 +1,8 @@
 //! Strings that are chosen so that under some keys one of them gets no place. The expected hashes are of the
 //! bytes that `checks/formats.py` writes.
-use super::packing::packed_of;
+use super::words::words_of;
 use crate::support::kinds::Host;
 use crate::tests::assertions::same;
-use intaglio::packed::{StrKind, SymbolTable};
 use intaglio_frozen::{
     FreezeError, FrozenKind, Header, StringList, freeze, freeze_with_default_keys,
 };
@@ -23,11 +22,6 @@ const UNDER_EIGHT: &str = "
     8806927 9221658 9319511 9592333 10925268 11181136 11598600 11761305 11797657 11830328
     11988972 12183448 12482669 12667757 13484168 13866871 14048987
 ";
-
-fn of_words(rt: &impl Host, words: &str) -> SymbolTable {
-    let words = words.split_whitespace().collect::<Vec<&str>>(rt.alloc());
-    packed_of::<StrKind>(rt, &words.expect(rt, "memory"))
-}
 
 // SipHash-1-3 of the bytes under the keys 0 and 0.
 fn hash_of(bytes: &[u8]) -> u64 {
@@ -55,34 +49,30 @@ fn frozen_by_default<L: StringList>(rt: &impl Host, list: &L, kind: FrozenKind) 
 
 #[test]
 fn the_first_keys_that_serve_are_taken(rt: HostRuntime) {
-    let table = of_words(&rt, UNDER_ONE);
-    let bytes = frozen(&rt, &table, FrozenKind::Bytes);
+    let words = words_of(&rt, UNDER_ONE);
+    let bytes = frozen(&rt, &words, FrozenKind::Bytes);
     has(&rt, &bytes, (1, 0), 1_153_101_347_055_206_373);
 }
 
 #[test]
 fn keys_are_drawn_from_strings_after_the_first_eight(rt: HostRuntime) {
-    let table = of_words(&rt, UNDER_EIGHT);
-    let bytes = frozen_by_default(&rt, &table, FrozenKind::Bytes);
+    let words = words_of(&rt, UNDER_EIGHT);
+    let bytes = frozen_by_default(&rt, &words, FrozenKind::Bytes);
     let keys = (10_087_741_285_488_634_726, 4_955_475_991_202_912_833);
     has(&rt, &bytes, keys, 17_246_542_960_659_430_143);
 }
 
 #[test]
 fn without_keys_the_first_are_0_and_0(rt: HostRuntime) {
-    let table = of_words(&rt, UNDER_ONE);
-    let given = frozen(&rt, &table, FrozenKind::Text);
-    let bytes = frozen_by_default(&rt, &table, FrozenKind::Text);
+    let words = words_of(&rt, UNDER_ONE);
+    let given = frozen(&rt, &words, FrozenKind::Text);
+    let bytes = frozen_by_default(&rt, &words, FrozenKind::Text);
     same(&rt, bytes.as_slice(), given.as_slice());
 }
 
 #[test]
 fn the_first_string_that_is_equal_to_an_earlier_one_is_named(rt: HostRuntime) {
-    let words: Vec<&[u8]> = "b a c a b a"
-        .split_whitespace()
-        .map(str::as_bytes)
-        .collect(rt.alloc())
-        .expect(&rt, "memory");
+    let words = words_of(&rt, "b a c a b a");
     let error = FreezeError::Equal(1, 3);
     let refused = freeze(rt.alloc(), &words, FrozenKind::Bytes, 0, 0);
     same(&rt, refused.err(), Some(error));

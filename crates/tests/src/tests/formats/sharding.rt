@@ -1,9 +1,8 @@
 //! What `split_with_map` and `Shards` do with strings of a list: each is in its shard,
 //! and is found at its number in all.
-use super::packing::packed_of;
+use super::words::words_of;
 use crate::support::kinds::Host;
 use crate::tests::assertions::{holds, same};
-use intaglio::packed::bytes::{BytesKind, SymbolTable};
 use intaglio_core::Symbol;
 use intaglio_frozen::{
     Frozen, FrozenKind, Shards, ShardsError, StringList, freeze, shard_of, split_with_map,
@@ -11,25 +10,11 @@ use intaglio_frozen::{
 
 const COUNT: u32 = 3;
 
-// The numbers below 50, as text.
-fn texts(rt: &impl Host) -> Vec<String> {
-    let mut texts = Vec::new(rt.alloc());
-    for number in 0..50 {
-        let text = format!(in rt.alloc(); "{number}").expect(rt, "memory");
-        texts.push(text).expect(rt, "memory");
-    }
-    texts
-}
-
-// A list of them.
-fn numbers(rt: &impl Host) -> SymbolTable {
-    let texts = texts(rt);
-    let mut forms = Vec::new(rt.alloc());
-    for text in texts.iter() {
-        forms.push(text.as_bytes()).expect(rt, "memory");
-    }
-    packed_of::<BytesKind>(rt, &forms)
-}
+// The numbers below 50.
+const NUMBERS: &str = "
+    0 1 2 3 4 5 6 7 8 9 10 11 12 13 14 15 16 17 18 19 20 21 22 23 24 25 26 27
+    28 29 30 31 32 33 34 35 36 37 38 39 40 41 42 43 44 45 46 47 48 49
+";
 
 // The frozen tables of the shards of a list.
 fn frozen_shards<L: StringList>(rt: &impl Host, list: &L) -> Vec<Vec<u8>> {
@@ -58,7 +43,7 @@ fn tables_from<'a>(rt: &impl Host, blocks: &'a [Vec<u8>], first: usize) -> Vec<F
 
 #[test]
 fn strings_are_found_in_their_shards(rt: HostRuntime) {
-    let list = numbers(&rt);
+    let list = words_of(&rt, NUMBERS);
     let blocks = frozen_shards(&rt, &list);
     let shards = Shards::open(rt.alloc(), tables_from(&rt, &blocks, 0)).expect(&rt, "shards");
     same(&rt, shards.count(), 3);
@@ -78,7 +63,7 @@ fn finds_each<L: StringList>(rt: &impl Host, shards: &Shards<'_>, list: &L) {
 
 #[test]
 fn the_map_of_a_split_leads_to_the_strings(rt: HostRuntime) {
-    let list = numbers(&rt);
+    let list = words_of(&rt, NUMBERS);
     let blocks = frozen_shards(&rt, &list);
     let shards = Shards::open(rt.alloc(), tables_from(&rt, &blocks, 0)).expect(&rt, "shards");
     leads_to_each(&rt, &shards, &list);
@@ -105,7 +90,7 @@ fn begins_as_elsewhere(rt: &impl Host, map: &[Symbol]) {
 
 #[test]
 fn a_batch_of_strings_is_found_in_its_shards(rt: HostRuntime) {
-    let list = numbers(&rt);
+    let list = words_of(&rt, NUMBERS);
     let blocks = frozen_shards(&rt, &list);
     let shards = Shards::open(rt.alloc(), tables_from(&rt, &blocks, 0)).expect(&rt, "shards");
     let batch: [&[u8]; 5] = [b"0", b"50", b"3", b"2", b"0"];
@@ -119,7 +104,7 @@ fn a_batch_of_strings_is_found_in_its_shards(rt: HostRuntime) {
 
 #[test]
 fn tables_in_another_order_are_no_shards(rt: HostRuntime) {
-    let list = numbers(&rt);
+    let list = words_of(&rt, NUMBERS);
     let blocks = frozen_shards(&rt, &list);
     let refused = Shards::open(rt.alloc(), tables_from(&rt, &blocks, 1)).err();
     holds(&rt, matches!(refused, Some(ShardsError::Misplaced(_, _))));
