@@ -143,7 +143,8 @@ fn wider_columns_are_written_as_another_writer_does(rt: HostRuntime) {
     holds(&rt, bytes.as_slice() == FOUR.as_slice());
 }
 
-// A byte of the column by its place, what it becomes, how many bytes are left, and the fault.
+// A byte of the column by its place, what it becomes, how many bytes are left, and the fault. The first byte is
+// 73, so that rows which begin with `(0, 73` only cut the column.
 type Damage = (usize, u8, usize, ColumnError);
 
 static DAMAGES: [Damage; 21] = [
